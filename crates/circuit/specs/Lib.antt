@@ -1,0 +1,4 @@
+pub mod Ops
+pub mod Model
+pub mod Lawful
+pub mod Tables

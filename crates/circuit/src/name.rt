@@ -1,0 +1,43 @@
+// The name of a line: 1 to 8 letters and digits, a letter first.
+ghost use mathlib.Core.Path.{_≡_};
+ghost use mathlib.Core.Bool.{true};
+ghost use mathlib.Core.List.{_∷_, []};
+ghost use Rattle.std.specs.Of.Vec.{vec-items};
+ghost use Rattle.std.specs.Results.{Cases};
+ghost use Rattle.words.specs.Spelling.{name-shape};
+use std::alloc::AllocError;
+use std::alloc::Global;
+use std::fmt;
+use words::is_name;
+
+#[derive(Drop)]
+pub struct Name {
+    bytes: Vec<u8>,
+    ghost shaped: { name-shape (vec-items bytes) ≡ true },
+}
+
+impl Name {
+    // A name of these bytes; nothing where they are no name.
+    pub fn new(heap: Global, word: &[u8]) -> Result<Option<Name>, AllocError>
+    {
+        if !is_name(word) {
+            return Ok(None);
+        }
+        let bytes = word.to_vec(heap)?;
+        Ok(Some(Name { bytes }))
+    }
+
+    pub fn bytes(&self) -> &[u8]
+        ensures { λ r. ⌜ now r ≡ vec-items (now (self .entry) .bytes) ⌝ }
+    {
+        self.bytes.as_slice()
+    }
+
+    // Turns into the name `a`, which takes no memory.
+    pub fn become_a(&mut self)
+        ensures { λ _. ⌜ vec-items (now (self .exit) .bytes) ≡ 97 ∷ [] ⌝ }
+    {
+        self.bytes.truncate(1);
+        self.bytes[0] = b'a';
+    }
+}

@@ -1,0 +1,4 @@
+pub mod Bytes
+pub mod Lexemes
+pub mod Lists
+pub mod Spelling
