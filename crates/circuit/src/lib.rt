@@ -2,7 +2,6 @@
 pub mod gate;
 pub mod name;
 pub mod op;
-mod rules;
 pub mod tables;
 
 pub use gate::Gate;
