@@ -1,6 +1,5 @@
 -- Every lexeme of a text ends within it.
 use mathlib.Core.Path.{_≡_}
-use mathlib.Core.Bool.{Bool, true, false, cond}
 use mathlib.Core.List.{List, [], _∷_}
 use Prim.Native.Nat.{ℕ, _+_, _<_, _≤_}
 use native.Mathlib.Omega.{arith}
@@ -12,7 +11,7 @@ use Rattle.std.proofs.shelf.Tests.{eqb-true, cond-both}
 use Rattle.words.specs.declared.bytes.ByteClass.{ByteClass}
 use Rattle.words.specs.declared.bytes.ByteClass.the-variants as class-of
 use Rattle.words.specs.Bytes.{class}
-use Rattle.words.specs.Lexemes.{Lexeme, Opening, Closing, Word, LineEnd, TextEnd, Forbidden, joined, prefixed, begun, lexemes, end-of}
+use Rattle.words.specs.Lexemes.{Lexeme, Opening, Closing, Word, LineEnd, TextEnd, Forbidden, prefixed, begun, lexemes, end-of}
 
 abbrev pub Ends-by : ℕ → Lexeme → Type 0
 Ends-by end t = end-of t ≤ end

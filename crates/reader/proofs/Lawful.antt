@@ -1,6 +1,6 @@
 -- Every circuit that reading grants keeps the rules of circuits, and its text ends within the text that was read.
 use mathlib.Core.Path.{_≡_, refl, sym, ap, subst, _∙_}
-use mathlib.Core.Bool.{Bool, true, false, cond, not, _&&_}
+use mathlib.Core.Bool.{Bool, true, false, cond}
 use mathlib.Core.List.{List, [], _∷_, _++_}
 use Prim.Native.Nat.{ℕ, _+_, _<_, _≤_}
 use native.Mathlib.Omega.{arith}
@@ -16,18 +16,18 @@ use Rattle.std.specs.shelf.Text.{sameBytes}
 use Rattle.std.proofs.shelf.Elements.{all-weaker}
 use Rattle.std.proofs.shelf.Lists.{length-push}
 use Rattle.std.proofs.shelf.Tests.{and-from, not-from-false, ltb-false, leb-false, eqb-false, lt-ltb, le-leb, cond-both}
-use Rattle.words.specs.Lexemes.{Lexeme, Opening, Closing, Word, LineEnd, TextEnd, Forbidden, lexemes, end-of}
+use Rattle.words.specs.Lexemes.{Lexeme, Opening, Closing, Word, LineEnd, TextEnd, Forbidden, lexemes}
 use Rattle.words.specs.Lists.{every, some}
 use Rattle.words.specs.Spelling.{name-shape}
 use Rattle.circuit.specs.declared.op.Op.{Op}
-use Rattle.circuit.specs.Lawful.{each-after, between, gate-fits, new-output, lawful}
+use Rattle.circuit.specs.Lawful.{each-after, new-output, lawful}
 use Rattle.circuit.specs.Model.{Gate, Circuit, line-count, names, line-named}
 use Rattle.circuit.specs.Ops.{op-named, fewest-operands, most-operands}
 use Rattle.reader.specs.Reading.{Pending, Due, inputs-line, inputs-head, input-name, line-end, next-line, next-head, gate-name, gate-begin, operator, operand, gate-line-close, output-name, outputs-end}
 use Rattle.reader.specs.Reading.{Outcome, Granted, Refused, Step, Go, Stop, taken, is-head, full, too-few, open-brackets, empty, run, step, reading}
 use Rattle.reader.specs.Reading.{with-operand, with-input, with-output, with-name, last-named, made-gate, gate-made, operand-found, output-found, operator-found, word-step, opening-step, closing-step, feed-step, end-step}
 use Rattle.reader.proofs.Ends.{Ends-by, lexemes-end}
-use Rattle.reader.proofs.Rules.{Lined, Next, lined-push, lined-named, lined-input, last-named-push, named, below, Below, found-below, every-push, every-below-more, each-after-push, line-names-push, line-named-push, length-line-names}
+use Rattle.reader.proofs.Rules.{Lined, is-named, lined-push, lined-named, lined-input, last-named-push, below, Below, found-below, every-push, every-below-more, each-after-push, line-names-push, line-named-push, length-line-names}
 
 -- What is known of the circuit so far: while the inputs line is read, while gates are, and while outputs are.
 record Inputs-read (c : Circuit) : Type 0 where
@@ -107,25 +107,24 @@ all-rules c k some-output =
     (and-from _ _ (k .lined .names-apart) (k .outputs-new)))))
 
 -- one more input
-kept-input : (c : Circuit) (word : List ℕ) → Inputs-read c → taken c word ≡ false → length (c .inputs) < 64 → Inputs-read (with-input c word)
-kept-input c word k free room =
-    let none : List Gate → Type 0 = λ gates. Lined (c .inputs ++ (word ∷ [])) gates in
-    record {
-      lined =
-        subst none (sym (k .no-gates))
-        (lined-input (c .inputs) word room
-        (subst (λ (gates : List Gate). taken (record { inputs = c .inputs; gates = gates; outputs = c .outputs }) word ≡ false) (k .no-gates) free)
-        (subst (Lined (c .inputs)) (k .no-gates) (k .lined)));
-      no-gates = k .no-gates;
-      no-outputs = k .no-outputs;
-    }
+kept-input : (c : Circuit) (word : List ℕ) → Inputs-read c → taken c word ≡ false → length (c .inputs) < 64
+    → Inputs-read (with-input c word)
+kept-input c word k free room = record {
+  lined =
+      subst (Lined (c .inputs ++ (word ∷ []))) (sym (k .no-gates))
+      (lined-input (c .inputs) word room
+      (subst (λ (gates : List Gate). is-named (c .inputs) gates word ≡ false) (k .no-gates) free)
+      (subst (Lined (c .inputs)) (k .no-gates) (k .lined)));
+  no-gates = k .no-gates;
+  no-outputs = k .no-outputs;
+}
 
 -- one more operand of a pending gate
 kept-operand : (lines line : ℕ) (p : Pending) → line < lines → Roomy lines p → Fitting lines (with-operand p line)
 kept-operand lines line p lt k = record {
-    within = simp length-push (omega arith);
-    lower = every-push (below lines) (p .operands) line (k .lower) (lt-ltb line lines lt);
-  }
+  within = simp length-push (omega arith);
+  lower = every-push (below lines) (p .operands) line (k .lower) (lt-ltb line lines lt);
+}
 
 roomy : (lines : ℕ) (p : Pending) → full p ≡ false → Fitting lines p → Roomy lines p
 roomy lines p room k = record { room = leb-false (most-operands (p .op)) (length (p .operands)) room; lower = k .lower }
@@ -139,77 +138,74 @@ module _ (c : Circuit) (name : List ℕ) (inner : Pending) where
   more-lines = simp length-push (omega arith)
 
   kept-made : Gate-begun c name → Fitting (line-count c) inner → too-few inner ≡ false → leb 512 (line-count c) ≡ false
-    → Gate-begun (made-gate c inner) name
+      → Gate-begun (made-gate c inner) name
   kept-made k fit enough room = record {
-      so-far = record {
-        lined = lined-push (c .inputs) (c .gates) (unnamed inner) (k .so-far .lined) (record {
-          room = leb-false 512 (line-count c) room;
-          fits =
+    so-far = record {
+      lined = lined-push (c .inputs) (c .gates) (unnamed inner) (k .so-far .lined) (record {
+        room = leb-false 512 (line-count c) room;
+        fits =
             and-from _ _
             (and-from _ _
             (le-leb _ _ (ltb-false (length (inner .operands)) (fewest-operands (inner .op)) enough))
             (le-leb _ _ (fit .within)))
             (fit .lower);
-          fresh = refl
-        });
-        some-input = k .so-far .some-input;
-        no-outputs = k .so-far .no-outputs
-      };
-      free =
+        fresh = refl;
+      });
+      some-input = k .so-far .some-input;
+      no-outputs = k .so-far .no-outputs;
+    };
+    free =
         ap isSome
         (ap (λ (lines : List (Option (List ℕ))). line-named lines name) (line-names-push (c .inputs) (c .gates) (unnamed inner))
-          ∙ line-named-push (names c) name)
-          ∙ k .free;
-    }
+        ∙ line-named-push (names c) name)
+        ∙ k .free;
+  }
 
   kept-gate : (end : ℕ) (pending : List Pending) → Gate-begun (made-gate c inner) name → All (Roomy (line-count c)) pending
-    → After end (gate-made (made-gate c inner) name (line-count c) pending)
+      → After end (gate-made (made-gate c inner) name (line-count c) pending)
   kept-gate end [] k around = (k, record { front = c .gates; last = inner; is = refl })
   kept-gate end (outer ∷ pending) k around =
-    let more = more-lines in
-    let wider = roomy-more (line-count c) (line-count (made-gate c inner)) (omega arith) in
-    (
-      k,
-      kept-operand (line-count (made-gate c inner)) (line-count c) outer (omega arith) (wider outer (around .0)),
-      all-weaker (Roomy (line-count c)) (Roomy (line-count (made-gate c inner))) wider pending (around .1)
-    )
+      let more = more-lines in
+      let wider = roomy-more (line-count c) (line-count (made-gate c inner)) (omega arith) in (
+        k,
+        kept-operand (line-count (made-gate c inner)) (line-count c) outer (omega arith) (wider outer (around .0)),
+        all-weaker (Roomy (line-count c)) (Roomy (line-count (made-gate c inner))) wider pending (around .1),
+      )
 
 -- the last gate gets the name that waits
 kept-name : (c : Circuit) (name : List ℕ) → Gate-begun c name → Ends-unnamed (c .gates) → Gates-read (with-name c name)
 kept-name c name k ends =
     let last = unnamed (ends .last) in
-    let with-gates : List Gate → Circuit = λ gates. record { inputs = c .inputs; gates = gates; outputs = c .outputs } in
     record {
       lined =
-        subst (Lined (c .inputs)) (sym (ap (last-named name) (ends .is) ∙ last-named-push name (ends .front) last))
-        (lined-named (c .inputs) (ends .front) last name refl
-        (subst (λ (gates : List Gate). taken (with-gates gates) name ≡ false) (ends .is) (k .free))
-        (subst (Lined (c .inputs)) (ends .is) (k .so-far .lined)));
+          subst (Lined (c .inputs)) (sym (ap (last-named name) (ends .is) ∙ last-named-push name (ends .front) last))
+          (lined-named (c .inputs) (ends .front) last name refl
+          (subst (λ (gates : List Gate). is-named (c .inputs) gates name ≡ false) (ends .is) (k .free))
+          (subst (Lined (c .inputs)) (ends .is) (k .so-far .lined)));
       some-input = k .so-far .some-input;
       no-outputs = k .so-far .no-outputs;
     }
 
+-- the outputs line begins
 no-outputs-yet : (c : Circuit) → Gates-read c → Outputs-read c
-no-outputs-yet c k =
-    let none : List ℕ → Type 0 = λ outputs. each-after (new-output (line-count c)) [] outputs ≡ true in
-    let few : List ℕ → Type 0 = λ outputs. length outputs ≤ 64 in
-    record {
-      lined = k .lined;
-      some-input = k .some-input;
-      few-outputs = subst few (sym (k .no-outputs)) (omega arith);
-      outputs-new = subst none (sym (k .no-outputs)) refl;
-    }
+no-outputs-yet c k = record {
+  lined = k .lined;
+  some-input = k .some-input;
+  few-outputs = subst (λ (outputs : List ℕ). length outputs ≤ 64) (sym (k .no-outputs)) (omega arith);
+  outputs-new = subst (λ (outputs : List ℕ). each-after (new-output (line-count c)) [] outputs ≡ true) (sym (k .no-outputs)) refl;
+}
 
+-- one more output
 kept-output : (c : Circuit) (line : ℕ) → Outputs-read c → line < line-count c → some (eqb line) (c .outputs) ≡ false
-  → length (c .outputs) < 64 → Outputs-read (with-output c line)
+    → length (c .outputs) < 64 → Outputs-read (with-output c line)
 kept-output c line k lt new room = record {
-    lined = k .lined;
-    some-input = k .some-input;
-    few-outputs = simp length-push (omega arith);
-    outputs-new =
+  lined = k .lined;
+  some-input = k .some-input;
+  few-outputs = simp length-push (omega arith);
+  outputs-new =
       each-after-push (new-output (line-count c)) [] (c .outputs) line
-        ∙ and-from _ _ (k .outputs-new) (and-from _ _ (lt-ltb line (line-count c) lt) (not-from-false _ new));
-  }
+      ∙ and-from _ _ (k .outputs-new) (and-from _ _ (lt-ltb line (line-count c) lt) (not-from-false _ new));
+}
 
 -- a name that is found is a line of the circuit
 found-line : (c : Circuit) (word : List ℕ) → Below (line-count c) (line-named (names c) word)
@@ -217,14 +213,14 @@ found-line c word =
     subst (λ (lines : ℕ). Below lines (line-named (names c) word)) (length-line-names (c .inputs) (c .gates)) (found-below (names c) word)
 
 kept-operand-found : (end : ℕ) (c : Circuit) (name : List ℕ) (inner : Pending) (pending : List Pending) (n : ℕ) (found : Option ℕ)
-  → Kept (operand name inner pending) c → full inner ≡ false → Below (line-count c) found
-  → After end (operand-found c name inner pending n found)
+    → Kept (operand name inner pending) c → full inner ≡ false → Below (line-count c) found
+    → After end (operand-found c name inner pending n found)
 kept-operand-found end c name inner pending n None k room lt = tt
 kept-operand-found end c name inner pending n (Some line) k room lt =
     (k .0, kept-operand (line-count c) line inner lt (roomy (line-count c) inner room (k .1)), k .2)
 
 kept-output-found : (end : ℕ) (c : Circuit) (n : ℕ) (found : Option ℕ) → Outputs-read c → Below (line-count c) found
-  → After end (output-found c n found)
+    → After end (output-found c n found)
 kept-output-found end c n None k lt = tt
 kept-output-found end c n (Some line) k lt =
     unless end (some (eqb line) (c .outputs)) _ _ tt
@@ -232,7 +228,7 @@ kept-output-found end c n (Some line) k lt =
     (λ room. kept-output c line k lt new (leb-false 64 (length (c .outputs)) room)))
 
 kept-operator-found : (end : ℕ) (c : Circuit) (name : List ℕ) (pending : List Pending) (n : ℕ) (found : Option Op)
-  → Kept (operator name pending) c → After end (operator-found c name pending n found)
+    → Kept (operator name pending) c → After end (operator-found c name pending n found)
 kept-operator-found end c name pending n None k = tt
 kept-operator-found end c name pending n (Some op) k = (k .0, record { within = omega arith; lower = refl }, k .1)
 
@@ -284,8 +280,8 @@ kept-closing inputs-head c n end k = tt
 kept-closing input-name c n end k =
     unless end (eqb (length (c .inputs)) 0) _ _ tt
     (λ some-input.
-      let not-none = eqb-false (length (c .inputs)) 0 some-input in
-      record { lined = k .lined; some-input = omega arith; no-outputs = k .no-outputs })
+    let not-none = eqb-false (length (c .inputs)) 0 some-input in
+    record { lined = k .lined; some-input = omega arith; no-outputs = k .no-outputs })
 kept-closing line-end c n end k = tt
 kept-closing next-line c n end k = tt
 kept-closing next-head c n end k = tt
@@ -346,7 +342,7 @@ kept-run end [] due c ends k = tt
 kept-run end (t ∷ ts) due c ends k = go (step due c t) (kept-step due c t end (ends .0) k) (λ next d. kept-run end ts next d (ends .1))
   where
     go : (s : Step) → After end s → ((next : Due) (d : Circuit) → Kept next d → Right end (run next d ts))
-      → Right end (elim s [ Go next d ↦ run next d ts | Stop o ↦ o ])
+        → Right end (elim s [ Go next d ↦ run next d ts | Stop o ↦ o ])
     go (Go next d) kept rest = rest next d kept
     go (Stop o) right rest = right
 
@@ -354,12 +350,12 @@ right-reading : (text : List ℕ) → Right (length text) (reading text)
 right-reading text =
     cond-both (ltb 65536 (length text)) _ _ (Right (length text)) (λ _. tt)
     (λ _. kept-run (length text) (lexemes 0 text) inputs-line empty
-      (subst (λ (end : ℕ). All (Ends-by end) (lexemes 0 text)) (zero-add (length text)) (lexemes-end 0 text))
-      (record {
-        lined = record { few-inputs = omega arith; few-lines = omega arith; gates-fit = refl; names-apart = refl };
-        no-gates = refl;
-        no-outputs = refl
-      }))
+    (subst (λ (end : ℕ). All (Ends-by end) (lexemes 0 text)) (zero-add (length text)) (lexemes-end 0 text))
+    (record {
+      lined = record { few-inputs = omega arith; few-lines = omega arith; gates-fit = refl; names-apart = refl };
+      no-gates = refl;
+      no-outputs = refl;
+    }))
 
 granted-right : (text : List ℕ) (c : Circuit) (p : ℕ) → reading text ≡ Granted c p → Right (length text) (Granted c p)
 granted-right text c p e = subst (Right (length text)) e (right-reading text)

@@ -1,6 +1,6 @@
 -- How the rules of circuits last as lines are added one by one.
-use mathlib.Core.Path.{_≡_, refl, sym, ap, subst, _∙_}
-use mathlib.Core.Bool.{Bool, true, false, cond, not, _&&_, and-true, and-assoc}
+use mathlib.Core.Path.{_≡_, refl, sym, ap, _∙_}
+use mathlib.Core.Bool.{Bool, true, false, cond, _&&_, and-true, and-assoc}
 use mathlib.Core.List.{List, [], _∷_, _++_, map}
 use Prim.Native.Nat.{ℕ, suc, _+_, _<_, _≤_}
 use native.Mathlib.Omega.{arith}
@@ -18,12 +18,12 @@ use Rattle.reader.specs.Reading.{last-named}
 
 -- one more element, at the end
 pub each-after-push : {X : Type 0} (right : List X → X → Bool) (before xs : List X) (y : X)
-  → each-after right before (xs ++ (y ∷ [])) ≡ (each-after right before xs && right (before ++ xs) y)
+    → each-after right before (xs ++ (y ∷ [])) ≡ (each-after right before xs && right (before ++ xs) y)
 each-after-push {X} right before [] y = and-true (right before y) ∙ ap (λ (front : List X). right front y) (sym (append-nil before))
 each-after-push {X} right before (x ∷ xs) y =
     ap (λ (t : Bool). right before x && t) (each-after-push right (before ++ (x ∷ [])) xs y)
-      ∙ sym (and-assoc (right before x) (each-after right (before ++ (x ∷ [])) xs) (right ((before ++ (x ∷ [])) ++ xs) y))
-      ∙ ap (λ (front : List X). (right before x && each-after right (before ++ (x ∷ [])) xs) && right front y) (append-assoc before (x ∷ []) xs)
+    ∙ sym (and-assoc (right before x) (each-after right (before ++ (x ∷ [])) xs) (right ((before ++ (x ∷ [])) ++ xs) y))
+    ∙ ap (λ (front : List X). (right before x && each-after right (before ++ (x ∷ [])) xs) && right front y) (append-assoc before (x ∷ []) xs)
 
 pub every-push : {X : Type 0} (p : X → Bool) (xs : List X) (y : X) → every p xs ≡ true → p y ≡ true → every p (xs ++ (y ∷ [])) ≡ true
 every-push p [] y all this = and-from (p y) true this refl
@@ -58,8 +58,9 @@ found-below (name ∷ names) word = first (has-name word name) (later (line-name
     later : (found : Option ℕ) → Below (length names) found → Below (length (name ∷ names)) (mapped suc found)
     later None h = tt
     later (Some line) h = omega arith
+
     first : (t : Bool) → Below (length (name ∷ names)) (mapped suc (line-named names word))
-      → Below (length (name ∷ names)) (cond t (Some 0) (mapped suc (line-named names word)))
+        → Below (length (name ∷ names)) (cond t (Some 0) (mapped suc (line-named names word)))
     first true h = omega arith
     first false h = h
 
@@ -79,10 +80,14 @@ pub length-line-names : (inputs : List (List ℕ)) (gates : List Gate) → lengt
 length-line-names inputs gates = simp (length-append, length-map)
 
 pub line-names-push : (inputs : List (List ℕ)) (gates : List Gate) (g : Gate)
-  → line-names inputs (gates ++ (g ∷ [])) ≡ line-names inputs gates ++ (g .name ∷ [])
+    → line-names inputs (gates ++ (g ∷ [])) ≡ line-names inputs gates ++ (g .name ∷ [])
 line-names-push inputs gates g =
     ap (λ (rest : List (Option (List ℕ))). map Some inputs ++ rest) (map-append (λ (h : Gate). h .name) gates (g ∷ []))
-      ∙ sym (append-assoc (map Some inputs) (map (λ (h : Gate). h .name) gates) (g .name ∷ []))
+    ∙ sym (append-assoc (map Some inputs) (map (λ (h : Gate). h .name) gates) (g .name ∷ []))
+
+-- a line among them has the name
+abbrev pub is-named : List (List ℕ) → List Gate → List ℕ → Bool
+is-named inputs gates name = isSome (line-named (line-names inputs gates) name)
 
 -- a gate fits after the gates before it
 abbrev pub fits-after : List (List ℕ) → List Gate → Gate → Bool
@@ -106,7 +111,7 @@ module _ (inputs : List (List ℕ)) (gates : List Gate) (g : Gate) where
   gates-fit-push = each-after-push (fits-after inputs) [] gates g
 
   names-apart-push : each-after unclaimed [] (line-names inputs (gates ++ (g ∷ [])))
-    ≡ (each-after unclaimed [] (line-names inputs gates) && unclaimed (line-names inputs gates) (g .name))
+      ≡ (each-after unclaimed [] (line-names inputs gates) && unclaimed (line-names inputs gates) (g .name))
   names-apart-push = ap (each-after unclaimed []) (line-names-push inputs gates g) ∙ each-after-push unclaimed [] (line-names inputs gates) (g .name)
 
   pub lined-push : Lined inputs gates → Next inputs gates g → Lined inputs (gates ++ (g ∷ []))
@@ -119,18 +124,16 @@ module _ (inputs : List (List ℕ)) (gates : List Gate) (g : Gate) where
 
   pub lined-pop : Lined inputs (gates ++ (g ∷ [])) → Lined inputs gates × Next inputs gates g
   lined-pop lined =
-    let fit = and-parts _ _ (sym gates-fit-push ∙ lined .gates-fit) in
-    let apart = and-parts _ _ (sym names-apart-push ∙ lined .names-apart) in
-    let longer = length-push gates g in
-    (
-      record { few-inputs = lined .few-inputs; few-lines = omega arith; gates-fit = fit .0; names-apart = apart .0 },
-      record { room = omega arith; fits = fit .1; fresh = apart .1 }
-    )
+      let fit = and-parts _ _ (sym gates-fit-push ∙ lined .gates-fit) in
+      let apart = and-parts _ _ (sym names-apart-push ∙ lined .names-apart) in
+      let longer = length-push gates g in (
+        record { few-inputs = lined .few-inputs; few-lines = omega arith; gates-fit = fit .0; names-apart = apart .0 },
+        record { room = omega arith; fits = fit .1; fresh = apart .1 },
+      )
 
 -- a name can be given to the last gate, which has none
 pub lined-named : (inputs : List (List ℕ)) (gates : List Gate) (g : Gate) (name : List ℕ) → g .name ≡ None
-  → isSome (line-named (line-names inputs (gates ++ (g ∷ []))) name) ≡ false
-  → Lined inputs (gates ++ (g ∷ [])) → Lined inputs (gates ++ (named name g ∷ []))
+    → is-named inputs (gates ++ (g ∷ [])) name ≡ false → Lined inputs (gates ++ (g ∷ [])) → Lined inputs (gates ++ (named name g ∷ []))
 lined-named inputs gates g name unnamed free lined =
     let parts = lined-pop inputs gates g lined in
     let known = line-names-push inputs gates g ∙ ap (λ (last : Option (List ℕ)). line-names inputs gates ++ (last ∷ [])) unnamed in
@@ -138,17 +141,22 @@ lined-named inputs gates g name unnamed free lined =
     lined-push inputs gates (named name g) (parts .0) (record {
       room = parts .1 .room;
       fits = parts .1 .fits;
-      fresh = not-from-false _ (sym (ap isSome found) ∙ free)
+      fresh = not-from-false _ (sym (ap isSome found) ∙ free);
     })
 
 -- one more input, while there are no gates
-pub lined-input : (inputs : List (List ℕ)) (name : List ℕ) → length inputs < 64 → isSome (line-named (line-names inputs []) name) ≡ false
-  → Lined inputs [] → Lined (inputs ++ (name ∷ [])) []
-lined-input inputs name room free lined = record {
-    few-inputs = simp length-push (omega arith);
-    few-lines = simp length-push (omega arith);
-    gates-fit = refl;
-    names-apart =
-        ap (each-after unclaimed []) (append-nil _ ∙ map-append Some inputs (name ∷ []) ∙ ap (λ (front : List (Option (List ℕ))). front ++ (Some name ∷ [])) (sym (append-nil (map Some inputs))))
-          ∙ each-after-push unclaimed [] (line-names inputs []) (Some name) ∙ and-from _ _ (lined .names-apart) (not-from-false _ free);
-  }
+pub lined-input : (inputs : List (List ℕ)) (name : List ℕ) → length inputs < 64 → is-named inputs [] name ≡ false
+    → Lined inputs [] → Lined (inputs ++ (name ∷ [])) []
+lined-input inputs name room free lined =
+    let Names = List (Option (List ℕ)) in
+    let one-more : line-names (inputs ++ (name ∷ [])) [] ≡ line-names inputs [] ++ (Some name ∷ []) =
+    append-nil (map Some (inputs ++ (name ∷ []))) ∙ map-append Some inputs (name ∷ [])
+    ∙ ap (λ (front : Names). front ++ (Some name ∷ [])) (sym (append-nil (map Some inputs))) in
+    record {
+      few-inputs = simp length-push (omega arith);
+      few-lines = simp length-push (omega arith);
+      gates-fit = refl;
+      names-apart =
+          ap (each-after unclaimed []) one-more ∙ each-after-push unclaimed [] (line-names inputs []) (Some name)
+          ∙ and-from _ _ (lined .names-apart) (not-from-false _ free);
+    }
