@@ -37,8 +37,8 @@ new-output lines before o = ltb o lines && not (some (eqb o) before)
 abbrev pub lawful : Circuit → Bool
 lawful c =
     between 1 64 (length (c .inputs))
-      && (leb (line-count c) 512
-      && (between 1 64 (length (c .outputs))
-      && (each-after (λ (before : List Gate). gate-fits (length (c .inputs) + length before)) [] (c .gates)
-      && (each-after unclaimed [] (names c)
-      && each-after (new-output (line-count c)) [] (c .outputs)))))
+    && (leb (line-count c) 512
+    && (between 1 64 (length (c .outputs))
+    && (each-after (λ (before : List Gate). gate-fits (length (c .inputs) + length before)) [] (c .gates)
+    && (each-after unclaimed [] (names c)
+    && each-after (new-output (line-count c)) [] (c .outputs)))))

@@ -1,11 +1,13 @@
 -- Circuits as the definitions speak of them: lists, with names as their bytes.
 use mathlib.Core.Bool.{Bool, false, cond}
 use mathlib.Core.List.{List, [], _∷_, _++_, map}
-use Prim.Native.Nat.{ℕ, suc, _+_}
+use Prim.Native.Nat.{ℕ, suc, _+_, _-_}
+use lib.Dec.{ltb}
 use lib.ListN.{length}
 use Rattle.std.specs.declared.option.Option.{Option}
 use Rattle.std.specs.declared.option.Option.the-variants.{Some, None}
 use Rattle.std.specs.Options.{mapped}
+use Rattle.std.specs.shelf.Maps.{nth}
 use Rattle.std.specs.shelf.Text.{sameBytes}
 use Rattle.circuit.specs.declared.op.Op.{Op}
 
@@ -36,6 +38,10 @@ has-name word (Some name) = sameBytes name word
 abbrev pub line-named : List (Option (List ℕ)) → List ℕ → Option ℕ
 line-named [] word = None
 line-named (name ∷ rest) word = cond (has-name word name) (Some 0) (mapped suc (line-named rest word))
+
+-- the gate whose line has that number
+abbrev pub gate-at : Circuit → ℕ → Option Gate
+gate-at c line = cond (ltb line (length (c .inputs))) None (nth (c .gates) (line - length (c .inputs)))
 
 -- one input, named a, which is the output
 abbrev pub blank : Circuit

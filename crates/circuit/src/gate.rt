@@ -7,5 +7,5 @@ pub struct Gate {
     // a gate that was written inside another has none
     pub name: Option<Name>,
     pub op: Op,
-    pub operands: Vec<u16>,
+    pub operands: Vec<usize>,
 }

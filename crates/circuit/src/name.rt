@@ -1,9 +1,10 @@
 // The name of a line: 1 to 8 letters and digits, a letter first.
 ghost use mathlib.Core.Path.{_≡_};
-ghost use mathlib.Core.Bool.{true};
+ghost use mathlib.Core.Bool.{true, false};
 ghost use mathlib.Core.List.{_∷_, []};
 ghost use Rattle.std.specs.Of.Vec.{vec-items};
-ghost use Rattle.std.specs.Results.{Cases};
+ghost use Rattle.std.specs.Options.{Cases as ByOption};
+ghost use Rattle.std.specs.Vec.{made};
 ghost use Rattle.words.specs.Spelling.{name-shape};
 use std::alloc::AllocError;
 use std::alloc::Global;
@@ -19,12 +20,21 @@ pub struct Name {
 impl Name {
     // A name of these bytes; nothing where they are no name.
     pub fn new(heap: Global, word: &[u8]) -> Result<Option<Name>, AllocError>
+        ensures { λ r. ⌜ made r (λ o. ByOption o (name-shape (now (word .entry)) ≡ false) (λ n. vec-items (n .bytes) ≡ now (word .entry))) ⌝ }
     {
         if !is_name(word) {
             return Ok(None);
         }
         let bytes = word.to_vec(heap)?;
         Ok(Some(Name { bytes }))
+    }
+
+    // The name `a`.
+    pub fn a(heap: Global) -> Result<Name, AllocError>
+        ensures { λ r. ⌜ made r (λ n. vec-items (n .bytes) ≡ 97 ∷ []) ⌝ }
+    {
+        let bytes = vec![in heap; b'a']?;
+        Ok(Name { bytes })
     }
 
     pub fn bytes(&self) -> &[u8]

@@ -7,5 +7,5 @@ pub struct Tables {
     pub inputs: Vec<Name>,
     pub gates: Vec<Gate>,
     // line numbers, in the order in which they were written
-    pub outputs: Vec<u16>,
+    pub outputs: Vec<usize>,
 }

@@ -1,5 +1,5 @@
--- What reading a circuit text answers: words are taken from the left, and the first that fails is refused by the lowest
--- number that fits it.
+-- What reading a circuit text answers. The text's words are judged one after the other, each by what stands before it.
+-- The first bad word ends the reading; where a word is bad in several ways, the smallest number is reported.
 use mathlib.Core.Bool.{Bool, cond, not, _||_}
 use mathlib.Core.List.{List, [], _∷_, _++_}
 use Prim.Native.Nat.{ℕ, _+_}

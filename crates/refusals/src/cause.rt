@@ -3,15 +3,15 @@ ghost use mathlib.Core.Path.{_≡_};
 ghost use Rattle.refusals.specs.Causes.{cause-of};
 ghost use Rattle.refusals.specs.declared.cause.Refusal.the-variants.{Text, Form, Circuit, Folder, Memory};
 use crate::layers::CircuitRefusal;
+use crate::layers::CircuitRefusalDebug;
 use crate::layers::FolderRefusal;
+use crate::layers::FolderRefusalDebug;
 use crate::layers::FormRefusal;
+use crate::layers::FormRefusalDebug;
 use crate::layers::TextRefusal;
+use crate::layers::TextRefusalDebug;
 use std::alloc::AllocError;
 use std::alloc::Refused;
-use crate::layers::CircuitRefusalDebug;
-use crate::layers::FolderRefusalDebug;
-use crate::layers::FormRefusalDebug;
-use crate::layers::TextRefusalDebug;
 
 // `Memory` is want of memory: it has no number, and nothing was changed.
 #[derive(Clone, Copy, Debug)]
@@ -45,10 +45,26 @@ impl Refusal {
         ensures { λ r. ⌜ r ≡ cause-of (now (self .entry)) ⌝ }
     {
         match self {
-            Refusal::Text(e) => Some(Cause { layer: Layer::Text, number: e.number(), place: e.place() }),
-            Refusal::Form(e) => Some(Cause { layer: Layer::Form, number: e.number(), place: e.place() }),
-            Refusal::Circuit(e) => Some(Cause { layer: Layer::Circuit, number: e.number(), place: e.place() }),
-            Refusal::Folder(e) => Some(Cause { layer: Layer::Folder, number: e.number(), place: 0 }),
+            Refusal::Text(e) => Some(Cause {
+                layer: Layer::Text,
+                number: e.number(),
+                place: e.place(),
+            }),
+            Refusal::Form(e) => Some(Cause {
+                layer: Layer::Form,
+                number: e.number(),
+                place: e.place(),
+            }),
+            Refusal::Circuit(e) => Some(Cause {
+                layer: Layer::Circuit,
+                number: e.number(),
+                place: e.place(),
+            }),
+            Refusal::Folder(e) => Some(Cause {
+                layer: Layer::Folder,
+                number: e.number(),
+                place: 0,
+            }),
             Refusal::Memory => None,
         }
     }

@@ -1,5 +1,5 @@
-// The refusals of the four layers. A refusal of a text has the place of the word that failed: the offset of its first
-// byte, or of the line feed, or the text's length at its end. A refusal of a call without text has none.
+// The refusals of the four layers. A refusal of a text has the place of the word that failed: where that word begins,
+// where the line feed stands, or how long the text is if it failed by ending. A refusal of a call without text has none.
 ghost use mathlib.Core.Path.{_≡_};
 ghost use Rattle.refusals.specs.Numbers.{text-number, text-place, form-number, form-place, circuit-number, circuit-place, folder-number};
 

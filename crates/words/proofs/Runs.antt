@@ -19,7 +19,7 @@ use Rattle.words.specs.Lexemes.{Lexeme, Opening, Closing, Word, LineEnd, TextE
 
 -- one byte on, by its class
 pub byte-step : (text : List ℕ) (n : ℕ) (c : ByteClass) → n < length text → class (getD text n 0) ≡ c
-  → lexemes-from text n ≡ begun c (getD text n 0) n (lexemes-from text (n + 1))
+    → lexemes-from text n ≡ begun c (getD text n 0) n (lexemes-from text (n + 1))
 byte-step text n c h e =
     ap (lexemes n) (drop-more text n 0 h) ∙ ap (λ (k : ByteClass). begun k (getD text n 0) n (lexemes-from text (n + 1))) e
 
@@ -59,6 +59,7 @@ first-late n (b ∷ bs) = go (first-late (n + 1) bs) (class b)
     later (LineEnd m ∷ ts) h = omega arith
     later (TextEnd m ∷ ts) h = omega arith
     later (Forbidden m ∷ ts) h = omega arith
+
     go : n + 1 ≤ first-place (lexemes (n + 1) bs) (n + 1) → (c : ByteClass) → n ≤ first-place (begun c b n (lexemes (n + 1) bs)) n
     go l class-of.InWord = subst (λ (m : ℕ). n ≤ m) (sym (prefixed-place b n n (lexemes (n + 1) bs))) (omega arith)
     go l class-of.Opening = omega arith
@@ -69,7 +70,7 @@ first-late n (b ∷ bs) = go (first-late (n + 1) bs) (class b)
 
 -- a byte of a word before lexemes whose first is not a word right after it
 alone : (b n : ℕ) (ts : List Lexeme) → n + 1 < first-place ts (n + 2) ⊎ ((bytes : List ℕ) (m : ℕ) (us : List Lexeme) → ts ≡ Word bytes m ∷ us → ⊥)
-  → prefixed b n ts ≡ Word (b ∷ []) n ∷ ts
+    → prefixed b n ts ≡ Word (b ∷ []) n ∷ ts
 alone b n [] h = refl
 alone b n (Opening m ∷ ts) h = refl
 alone b n (Closing m ∷ ts) h = refl
@@ -101,6 +102,7 @@ class-out b h e = go (eqb b 40) (eqb b 41) (eqb b 32) (eqb b 10) (rw h at e)
   where
     never : (c : ByteClass) → ByteClass-number c ≡ 1 → c ≡ class-of.InWord → ⊥
     never c z y = let k : _≡_ {A = ℕ} 0 1 = sym (ap ByteClass-number y) ∙ z in omega arith
+
     go : (p q r s : Bool) → cond p class-of.Opening (cond q class-of.Closing (cond r class-of.Space (cond s class-of.LineFeed class-of.Forbidden))) ≡ class-of.InWord → ⊥
     go true q r s y = never _ refl y
     go false true r s y = never _ refl y
@@ -115,6 +117,7 @@ ended b n (d ∷ bs) h = go (class d) refl
   where
     out : in-word d ≡ true → ⊥
     out e = let z : leading in-word (d ∷ bs) ≡ 1 + leading in-word bs = rw e refl in omega arith
+
     go : (c : ByteClass) → class d ≡ c → prefixed b n (begun c d (n + 1) (lexemes (n + 1 + 1) bs)) ≡ Word (b ∷ []) n ∷ begun c d (n + 1) (lexemes (n + 1 + 1) bs)
     go class-of.InWord e = absurd (elim (cases-bool (in-word d)) [ inl y ↦ out y | inr y ↦ class-out d y e ])
     go class-of.Opening e = refl
@@ -142,12 +145,14 @@ word-run n (b ∷ bs) k h = go (word-run (n + 1) bs) (cases-bool (in-word b))
   where
     inside : in-word b ≡ true → leading in-word bs ≡ k
     inside y = let z : leading in-word (b ∷ bs) ≡ 1 + leading in-word bs = rw y refl in omega arith
+
     rest : Word-first (n + 1) bs → (j : ℕ) → leading in-word bs ≡ j → j ≡ k → prefixed b n (lexemes (n + 1) bs) ≡ Word (take (suc k) (b ∷ bs)) n ∷ lexemes (n + suc k) (drop (suc k) (b ∷ bs))
     rest run zero e same = ended b n bs e ∙ ap (λ (i : ℕ). Word (take (suc i) (b ∷ bs)) n ∷ lexemes (n + suc i) (drop (suc i) (b ∷ bs))) same
     rest run (suc j) e same =
         ap (prefixed b n) (run j e) ∙ joins b n (take (suc j) bs) (lexemes (n + 1 + suc j) (drop (suc j) bs))
-          ∙ ap (λ (i : ℕ). Word (b ∷ take (suc j) bs) n ∷ lexemes i (drop (suc j) bs)) (omega arith)
-          ∙ ap (λ (i : ℕ). Word (take (suc i) (b ∷ bs)) n ∷ lexemes (n + suc i) (drop (suc i) (b ∷ bs))) same
+        ∙ ap (λ (i : ℕ). Word (b ∷ take (suc j) bs) n ∷ lexemes i (drop (suc j) bs)) (omega arith)
+        ∙ ap (λ (i : ℕ). Word (take (suc i) (b ∷ bs)) n ∷ lexemes (n + suc i) (drop (suc i) (b ∷ bs))) same
+
     go : Word-first (n + 1) bs → (in-word b ≡ true) ⊎ (in-word b ≡ false) → lexemes n (b ∷ bs) ≡ Word (take (suc k) (b ∷ bs)) n ∷ lexemes (n + suc k) (drop (suc k) (b ∷ bs))
     go run (inl y) = ap (λ (c : ByteClass). begun c b n (lexemes (n + 1) bs)) (class-in b y) ∙ rest run (leading in-word bs) refl (inside y)
     go run (inr y) = let z : leading in-word (b ∷ bs) ≡ 0 = rw y refl in absurd (omega arith)
@@ -164,9 +169,10 @@ word-at text n end h e c = go (leading in-word (drop n text)) refl
     some : leading in-word (drop n text) ≡ 0 → ⊥
     some z =
         elim (cases-bool (in-word (getD text n 0))) [
-          inl y ↦ omega (arith, leading-drop-yes in-word text n 0 h y)
-        | inr y ↦ class-out (getD text n 0) y c
+          | inl y ↦ omega (arith, leading-drop-yes in-word text n 0 h y)
+          | inr y ↦ class-out (getD text n 0) y c
         ]
+
     go : (k : ℕ) → leading in-word (drop n text) ≡ k → Run-of text n end
     go zero z = absurd (some z)
     go (suc k) z =
@@ -175,7 +181,7 @@ word-at text n end h e c = go (leading in-word (drop n text)) refl
         let long : length (take (end - n) (drop n text)) ≡ suc k = ap (λ (i : ℕ). length (take i (drop n text))) size ∙ length-take-le (suc k) (drop n text) (omega arith) in
         record {
           taken =
-            word-run n (drop n text) k z
+              word-run n (drop n text) k z
               ∙ ap (λ (i : List ℕ). Word (take (suc k) (drop n text)) n ∷ lexemes (n + suc k) i) (drop-drop (suc k) n text)
               ∙ ap (λ (i : ℕ). Word (take i (drop n text)) n ∷ lexemes-from text (n + suc k)) (sym size)
               ∙ ap (λ (i : ℕ). Word (take (end - n) (drop n text)) n ∷ lexemes-from text (n + i)) (sym long);

@@ -66,7 +66,13 @@ fn token_at<'a>(text: &'a [u8], place: usize) -> (Token<'a>, usize)
     match class_of(text[place]) {
         ByteClass::InWord => {
             let end = word_end(text, place);
-            (Token::Word { bytes: &text[place..end], place }, end)
+            (
+                Token::Word {
+                    bytes: &text[place..end],
+                    place,
+                },
+                end,
+            )
         }
         ByteClass::Opening => (Token::Opening { place }, place + 1),
         ByteClass::Closing => (Token::Closing { place }, place + 1),
@@ -82,7 +88,10 @@ impl<'a> Lexer<'a> {
         ensures text { λ r. ⌜ pointed (r .text) ≡ now (text .entry) ⌝ }
         ensures place { λ r. ⌜ r .place ≡ min place (length (now (text .entry))) ⌝ }
     {
-        Lexer { text, place: place.min(text.len()) }
+        Lexer {
+            text,
+            place: place.min(text.len()),
+        }
     }
 
     // The next word, bracket or line end; at the text's end that end, again and again.

@@ -1,4 +1,4 @@
-// One word of a text, as a part of the text itself, with its place: the offset of its first byte.
+// One word of a text. It borrows its bytes from the text and knows its place, which is where in the text it begins.
 #[derive(Clone, Copy)]
 pub enum Token<'a> {
     Opening { place: usize },

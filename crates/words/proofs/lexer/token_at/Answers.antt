@@ -22,7 +22,7 @@ returns-then-place-text c = record {
 pub returns-in-InWord : need.returns-in-InWord
 returns-in-InWord c =
     let run =
-        word-at (c .args .text .now) (c .args .place) (c .word-end-end .result) (omega arith) (c .word-end-end .ensures .value) (sym (c .in-InWord .ensures tt))
+    word-at (c .args .text .now) (c .args .place) (c .word-end-end .result) (omega arith) (c .word-end-end .ensures .value) (sym (c .in-InWord .ensures tt))
     in
     record { taken = run .taken; after = run .after; inside = c .word-end-end .ensures .within; forward = λ _. run .forward }
 
