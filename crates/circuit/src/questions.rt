@@ -4,18 +4,38 @@ ghost use mathlib.Core.Path.{_≡_};
 ghost use mathlib.Core.Bool.{true};
 ghost use mathlib.Core.List.{map};
 ghost use Prim.Native.Nat.{_≤_};
-ghost use lib.ListN.{getD, length};
+ghost use lib.Dec.{eqb};
+ghost use lib.ListN.{getD, length, take};
 ghost use Rattle.std.specs.declared.option.Option.the-variants.{None};
 ghost use Rattle.std.specs.Options.{mapped};
 ghost use Rattle.circuit.specs.Model.{names, line-named, line-count, gate-at};
 ghost use Rattle.circuit.specs.Lawful.{lawful};
-ghost use Rattle.circuit.specs.Tables.{name-bytes, gate-model};
+ghost use Rattle.circuit.specs.Tables.{name-bytes, gate-model, tables-model};
+ghost use Rattle.words.specs.Lists.{some};
 ghost use Rattle.circuit.specs.Circuits.{circuit-model};
 use crate::circuit::Circuit;
 use crate::gate::Gate;
 use crate::name::Name;
+use crate::rules::lists;
 use crate::rules::name_at;
 use crate::rules::named_below;
+use crate::tables::Tables;
+
+impl Tables {
+    // The first of the lines below `count` that has the name.
+    pub fn named_below(&self, count: usize, word: &[u8]) -> Option<usize>
+        ensures { λ r. ⌜ r ≡ line-named (take count (names (tables-model (now (self .entry))))) (now (word .entry)) ⌝ }
+    {
+        named_below(self, count, word)
+    }
+
+    // Whether that line is among the outputs.
+    pub fn lists(&self, line: usize) -> bool
+        ensures { λ r. ⌜ r ≡ some (eqb line) (tables-model (now (self .entry)) .outputs) ⌝ }
+    {
+        lists(&self.outputs, line)
+    }
+}
 
 impl Circuit {
     pub fn input_count(&self) -> usize

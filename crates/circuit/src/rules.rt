@@ -17,11 +17,11 @@ use crate::name::Name;
 use crate::tables::Tables;
 use words::same_bytes;
 
-pub const MOST_INPUTS: usize = 64;
+const MOST_INPUTS: usize = 64;
 
-pub const MOST_LINES: usize = 512;
+const MOST_LINES: usize = 512;
 
-pub const MOST_OUTPUTS: usize = 64;
+const MOST_OUTPUTS: usize = 64;
 
 // Whether each operand has a number below `line`.
 fn all_below(operands: &[usize], line: usize) -> bool

@@ -1,3 +1,5 @@
 pub mod Ends
 pub mod Rules
 pub mod Lawful
+pub mod Taking
+pub mod Steps

@@ -1,9 +1,9 @@
 // Takes the words of a text from the left.
 ghost use denote.Ref.{now as pointed};
 ghost use mathlib.Core.Path.{_≡_};
-ghost use mathlib.Core.Bool.{false};
-ghost use mathlib.Core.List.{_∷_};
-ghost use Prim.Native.Nat.{ℕ, _≤_, _<_, _+_, min};
+ghost use mathlib.Core.Bool.{true, false};
+ghost use mathlib.Core.List.{[], _∷_};
+ghost use Prim.Native.Nat.{ℕ, _≤_, _<_, _+_, _^_, min};
 ghost use lib.ListN.{length, drop, getD};
 ghost use Rattle.std.specs.shelf.Lists.{leading};
 ghost use Rattle.words.specs.Bytes.{class, in-word};
@@ -59,6 +59,7 @@ fn token_at<'a>(text: &'a [u8], place: usize) -> (Token<'a>, usize)
     ensures after { λ r. ⌜ r .1 ≡ end-of (lexeme (r .0)) ⌝ }
     ensures inside { λ r. ⌜ r .1 ≤ length (now (text .entry)) ⌝ }
     ensures forward { λ r. ⌜ (is-end (lexeme (r .0)) ≡ false → place < r .1) ⌝ }
+    ensures again { λ r. ⌜ (is-end (lexeme (r .0)) ≡ true → lexemes-from (now (text .entry)) (r .1) ≡ lexeme (r .0) ∷ []) ⌝ }
 {
     if place == text.len() {
         return (Token::TextEnd { place }, place);
@@ -100,6 +101,8 @@ impl<'a> Lexer<'a> {
         ensures after { λ r. ⌜ now (self .exit) .place ≡ end-of (lexeme r) ⌝ }
         ensures same { λ r. ⌜ now (self .exit) .text ≡ now (self .entry) .text ⌝ }
         ensures forward { λ r. ⌜ (is-end (lexeme r) ≡ false → now (self .entry) .place < now (self .exit) .place) ⌝ }
+        ensures fits { λ r. ⌜ end-of (lexeme r) < 2 ^ 64 ⌝ }
+        ensures again { λ r. ⌜ (is-end (lexeme r) ≡ true → lexemes-from (pointed (now (self .entry) .text)) (now (self .exit) .place) ≡ lexeme r ∷ []) ⌝ }
     {
         let text = self.text;
         let (token, end) = token_at(text, past_spaces(text, self.place));

@@ -17,6 +17,7 @@ returns-then-place-text c = record {
   after = refl;
   inside = omega arith;
   forward = search needs;
+  again = λ _. at-drop-all (lexemes (c .args .place)) (c .args .text .now) (c .args .place) (omega arith);
 }
 
 pub returns-in-InWord : need.returns-in-InWord
@@ -24,16 +25,16 @@ returns-in-InWord c =
     let run =
     word-at (c .args .text .now) (c .args .place) (c .word-end-end .result) (omega arith) (c .word-end-end .ensures .value) (sym (c .in-InWord .ensures tt))
     in
-    record { taken = run .taken; after = run .after; inside = c .word-end-end .ensures .within; forward = λ _. run .forward }
+    record { taken = run .taken; after = run .after; inside = c .word-end-end .ensures .within; forward = λ _. run .forward; again = search needs }
 
 pub returns-in-Opening : need.returns-in-Opening
-returns-in-Opening c = record { taken = byte-step (c .args .text .now) (c .args .place) class-of.Opening (omega arith) (sym (c .in-Opening .ensures tt)); after = refl; inside = omega arith; forward = search needs }
+returns-in-Opening c = record { taken = byte-step (c .args .text .now) (c .args .place) class-of.Opening (omega arith) (sym (c .in-Opening .ensures tt)); after = refl; inside = omega arith; forward = search needs; again = search needs }
 
 pub returns-in-Closing : need.returns-in-Closing
-returns-in-Closing c = record { taken = byte-step (c .args .text .now) (c .args .place) class-of.Closing (omega arith) (sym (c .in-Closing .ensures tt)); after = refl; inside = omega arith; forward = search needs }
+returns-in-Closing c = record { taken = byte-step (c .args .text .now) (c .args .place) class-of.Closing (omega arith) (sym (c .in-Closing .ensures tt)); after = refl; inside = omega arith; forward = search needs; again = search needs }
 
 pub returns-in-LineFeed : need.returns-in-LineFeed
-returns-in-LineFeed c = record { taken = byte-step (c .args .text .now) (c .args .place) class-of.LineFeed (omega arith) (sym (c .in-LineFeed .ensures tt)); after = refl; inside = omega arith; forward = search needs }
+returns-in-LineFeed c = record { taken = byte-step (c .args .text .now) (c .args .place) class-of.LineFeed (omega arith) (sym (c .in-LineFeed .ensures tt)); after = refl; inside = omega arith; forward = search needs; again = search needs }
 
 pub returns-in-Forbidden : need.returns-in-Forbidden
-returns-in-Forbidden c = record { taken = byte-step (c .args .text .now) (c .args .place) class-of.Forbidden (omega arith) (sym (c .in-Forbidden .ensures tt)); after = refl; inside = omega arith; forward = search needs }
+returns-in-Forbidden c = record { taken = byte-step (c .args .text .now) (c .args .place) class-of.Forbidden (omega arith) (sym (c .in-Forbidden .ensures tt)); after = refl; inside = omega arith; forward = search needs; again = search needs }
