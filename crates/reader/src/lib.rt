@@ -2,6 +2,7 @@
 ghost use Prim.Native.Nat.{ℕ, _≤_};
 ghost use Rattle.circuit.specs.Lawful.{lawful};
 ghost use Rattle.circuit.specs.Model.{Circuit};
+ghost use Rattle.reader.specs.Describes.{Reads-what-is-described, One-circuit};
 ghost use Rattle.reader.specs.Reading.{reading, Granted};
 ghost use lib.ListN.{length};
 ghost use mathlib.Core.Bool.{true};
@@ -18,6 +19,13 @@ pub fn one() -> u8
 pub fn granted_is_lawful() -> u8
     ensures lawful { λ _. ⌜ ((text : List ℕ) (c : Circuit) (p : ℕ) → reading text ≡ Granted c p → lawful c ≡ true) ⌝ }
     ensures short { λ _. ⌜ ((text : List ℕ) (c : Circuit) (p : ℕ) → reading text ≡ Granted c p → p ≤ length text) ⌝ }
+{
+    0
+}
+
+// Reading grants just the texts that describe a circuit, and a text describes at most one.
+pub fn described() -> u8
+    ensures { λ _. ⌜ Reads-what-is-described × One-circuit ⌝ }
 {
     0
 }
