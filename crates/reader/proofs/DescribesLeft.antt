@@ -1,4 +1,4 @@
--- What the lexemes ahead are, wherever reading stands, if it ends with the circuit d and the place: the words that are
+-- What the lexemes ahead are, wherever reading stands, if it ends with the circuit d and that place: the words that are
 -- due, and what the rules ask of them.
 use mathlib.Core.Path.{_≡_}
 use mathlib.Core.Logic.{_⊎_}
@@ -15,8 +15,10 @@ use Rattle.circuit.specs.declared.op.Op.{Op}
 use Rattle.circuit.specs.Ops.{fewest-operands, most-operands}
 use Rattle.circuit.specs.Model.{Circuit, line-count}
 use Rattle.circuit.specs.Lawful.{each-after, unclaimed}
-use Rattle.reader.specs.Reading.{Due, Pending, inputs-line, inputs-head, input-name, line-end, next-line, next-head, gate-name, gate-begin, operator, operand, gate-line-close, output-name, outputs-end, with-operand, with-name, made-gate}
-use Rattle.reader.specs.Describes.{Mark, opening, closing, word, line-feed, Operands, GateLine, GateLinesRules, names-then, operands-then, gate-lines-then, known, number-of, made, with-gate-lines, inputs-alone, op-word, operand-count, rest-place, unlisted}
+use Rattle.reader.specs.Reading.{Due, Pending, inputs-line, inputs-head, input-name, line-end, next-line, next-head, gate-name, gate-begin, operator, operand, gate-line-close, output-name, outputs-end}
+use Rattle.reader.specs.Reading.{with-operand, with-name, made-gate}
+use Rattle.reader.specs.Describes.{Mark, opening, closing, word, line-feed, Operands, GateLine, names-then, operands-then, gate-lines-then, op-word, rest-place}
+use Rattle.reader.specs.Describes.{known, number-of, made, with-gate-lines, inputs-alone, operand-count, unlisted, GateLinesRules}
 use Rattle.reader.proofs.DescribesPlaces.{Placed}
 use Rattle.reader.proofs.DescribesLines.{with-operands, with-outputs, Right}
 
@@ -65,7 +67,7 @@ module _ (d : Circuit) (place : ℕ) where
     pub any : 1 ≤ length before + length inputs
     pub lines : LinesLeft (inputs-alone (before ++ inputs)) left
 
-  -- the further operands of a gate and its closing bracket, in which that many brackets are open
+  -- the further operands of a gate inside that many others, its closing bracket, and what is left outside it
   pub record GateLeft (Outside : Circuit → ℕ → List Lexeme → Type 0) (depth : ℕ) (gate : Pending) (c : Circuit) (ts : List Lexeme) : Type 0 where
     pub operands : Operands
     pub left : List Lexeme
@@ -74,24 +76,30 @@ module _ (d : Circuit) (place : ℕ) where
     pub enough : fewest-operands (gate .op) ≤ length (gate .operands) + operand-count operands
     pub few : operand-count operands ≤ most-operands (gate .op) - length (gate .operands)
     pub room : line-count (made c operands .circuit) < 512
-    pub outside : Outside (made-gate (made c operands .circuit) (with-operands gate (made c operands .lines))) (line-count (made c operands .circuit)) left
+    pub outside :
+        let within = made c operands in
+        Outside (made-gate (within .circuit) (with-operands gate (within .lines))) (line-count (within .circuit)) left
 
-  -- what is left of a gate line outside a gate that has become that line
+  -- what is left outside a gate that has become that line
   abbrev pub OutsideLeft : List ℕ → List Pending → Circuit → ℕ → List Lexeme → Type 0
   OutsideLeft name [] c line = First (closing ∷ (line-feed ∷ [])) (LinesLeft (with-name c name))
-  OutsideLeft name (gate ∷ pending) c line = GateLeft (OutsideLeft name pending) (2 + length pending) (with-operand gate line) c
+  OutsideLeft name (gate ∷ pending) c line = GateLeft (OutsideLeft name pending) (length pending) (with-operand gate line) c
 
   abbrev pub OperandLeft : List ℕ → Pending → List Pending → Circuit → List Lexeme → Type 0
-  OperandLeft name gate pending = GateLeft (OutsideLeft name pending) (2 + length pending) gate
+  OperandLeft name gate pending = GateLeft (OutsideLeft name pending) (length pending) gate
 
   abbrev pub OperatorLeft : List ℕ → List Pending → Circuit → List Lexeme → Type 0
-  OperatorLeft name pending c ts = (op : Op) × First (word (op-word op) ∷ []) (OperandLeft name (record { op = op; operands = [] }) pending c) ts
+  OperatorLeft name pending c ts =
+      (op : Op) × First (word (op-word op) ∷ []) (OperandLeft name (record { op = op; operands = [] }) pending c) ts
 
   abbrev pub NameLeft : Circuit → List Lexeme → Type 0
-  NameLeft c ts = (name : List ℕ) × (name-shape name ≡ true) × (known c name ≡ false) × First (word name ∷ (opening ∷ [])) (OperatorLeft name [] c) ts
+  NameLeft c ts =
+      (name : List ℕ) × (name-shape name ≡ true) × (known c name ≡ false) × First (word name ∷ (opening ∷ [])) (OperatorLeft name [] c) ts
 
+  -- by what is due; an inputs line is read while there are inputs alone
   abbrev pub Left : Due → Circuit → List Lexeme → Type 0
-  Left inputs-line c ts = (before : List (List ℕ)) → c ≡ inputs-alone before → First (opening ∷ (word (codes "inputs") ∷ [])) (InputsLeft before) ts
+  Left inputs-line c ts =
+      (before : List (List ℕ)) → c ≡ inputs-alone before → First (opening ∷ (word (codes "inputs") ∷ [])) (InputsLeft before) ts
   Left inputs-head c ts = (before : List (List ℕ)) → c ≡ inputs-alone before → First (word (codes "inputs") ∷ []) (InputsLeft before) ts
   Left input-name c ts = (before : List (List ℕ)) → c ≡ inputs-alone before → InputsLeft before ts
   Left line-end c ts = First (line-feed ∷ []) (LinesLeft c) ts

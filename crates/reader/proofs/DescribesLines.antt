@@ -1,8 +1,8 @@
 -- Lines of a circuit: how the gates of a line change their names and their number.
-use mathlib.Core.Path.{_≡_, refl, ap, _∙_, fun-ext}
+use mathlib.Core.Path.{_≡_, refl, sym, ap, _∙_, fun-ext}
 use mathlib.Core.Bool.{Bool, true, false, _&&_}
 use mathlib.Core.List.{List, [], _∷_, _++_, map, append-assoc}
-use Prim.Native.Nat.{ℕ, suc, _-_, _≤_}
+use Prim.Native.Nat.{ℕ, suc, _-_, _≤_, _<_}
 use native.Mathlib.Omega.{arith}
 use lib.Dec.{leb}
 use lib.ListN.{length}
@@ -19,7 +19,7 @@ use Rattle.circuit.specs.Ops.{op-named}
 use Rattle.circuit.specs.Model.{Gate, Circuit, line-count, names, line-named}
 use Rattle.circuit.specs.Lawful.{between}
 use Rattle.reader.specs.Reading.{Pending, with-gate, with-operand}
-use Rattle.reader.specs.Describes.{Operands, none, name-then, gate-then, GateLine, op-word, known, number-of, made, with-gate-line, with-gate-lines, names-in, gates-take, nesting, operand-count}
+use Rattle.reader.specs.Describes.{Operands, none, name-then, gate-then, GateLine, op-word, known, number-of, made, with-gate-line, with-gate-lines, names-in, gates-take, takes, nesting, operand-count}
 use Rattle.reader.proofs.Rules.{line-named-push, line-names-push}
 
 -- The words of operators are well shaped, and name them.
@@ -136,9 +136,70 @@ one-first p line lines = ap (λ (os : List ℕ). record { op = p .op; operands =
 abbrev pub with-outputs : Circuit → List (List ℕ) → Circuit
 with-outputs c ws = record { inputs = c .inputs; gates = c .gates; outputs = c .outputs ++ map (number-of c) ws }
 
--- What the rules ask of operands behind the lines of c, where that many brackets are open, but for their number.
+-- What the rules ask of operands behind the lines of c, inside that many gates, but for how many they are. Two brackets
+-- are open around the outermost gate's operands.
 pub record Right (c : Circuit) (depth : ℕ) (a : Operands) : Type 0 where
   pub shaped : every name-shape (names-in a) ≡ true
   pub known-names : every (known c) (names-in a) ≡ true
   pub take : gates-take a ≡ true
-  pub nest : nesting a ≤ 8 - depth
+  pub nest : nesting a ≤ 6 - depth
+
+-- the same of operands that begin with a name, and with a gate, part by part
+pub record RightName (c : Circuit) (depth : ℕ) (w : List ℕ) (more : Operands) : Type 0 where
+  pub shaped : name-shape w ≡ true
+  pub is-known : known c w ≡ true
+  pub after : Right c depth more
+
+pub record RightGate (c : Circuit) (depth : ℕ) (op : Op) (inner more : Operands) : Type 0 where
+  pub count : takes op inner ≡ true
+  pub shallow : depth < 6
+  pub within : Right c (suc depth) inner
+  pub after : Right (behind c op inner) depth more
+
+module _ (c : Circuit) (depth : ℕ) (w : List ℕ) (more : Operands) where
+  pub right-name : RightName c depth w more → Right c depth (name-then w more)
+  right-name r = record {
+    shaped = and-from _ _ (r .shaped) (r .after .shaped);
+    known-names = and-from _ _ (r .is-known) (r .after .known-names);
+    take = r .after .take;
+    nest = r .after .nest;
+  }
+
+  pub right-name-parts : Right c depth (name-then w more) → RightName c depth w more
+  right-name-parts r =
+      let shaped = and-parts (name-shape w) _ (r .shaped) in
+      let known-names = and-parts (known c w) _ (r .known-names) in
+      record {
+        shaped = shaped .0;
+        is-known = known-names .0;
+        after = record { shaped = shaped .1; known-names = known-names .1; take = r .take; nest = r .nest };
+      }
+
+module _ (c : Circuit) (depth : ℕ) (op : Op) (inner more : Operands) where
+  pub right-gate : RightGate c depth op inner more → Right c depth (gate-then op inner more)
+  right-gate r = record {
+    shaped = every-append name-shape (names-in inner) (names-in more) ∙ and-from _ _ (r .within .shaped) (r .after .shaped);
+    known-names =
+        every-append (known c) (names-in inner) (names-in more)
+        ∙ and-from _ _ (r .within .known-names) (sym (same-known c op inner (names-in more)) ∙ r .after .known-names);
+    take = and-from _ _ (r .count) (and-from _ _ (r .within .take) (r .after .take));
+    nest = omega arith;
+  }
+
+  pub right-gate-parts : Right c depth (gate-then op inner more) → RightGate c depth op inner more
+  right-gate-parts r =
+      let shaped = and-parts (every name-shape (names-in inner)) _ (sym (every-append name-shape (names-in inner) (names-in more)) ∙ r .shaped) in
+      let known-names = and-parts (every (known c) (names-in inner)) _ (sym (every-append (known c) (names-in inner) (names-in more)) ∙ r .known-names) in
+      let count = and-parts (takes op inner) _ (r .take) in
+      let take = and-parts (gates-take inner) _ (count .1) in
+      record {
+        count = count .0;
+        shallow = omega (arith, r .nest);
+        within = record { shaped = shaped .0; known-names = known-names .0; take = take .0; nest = omega (arith, r .nest) };
+        after = record {
+          shaped = shaped .1;
+          known-names = same-known c op inner (names-in more) ∙ known-names .1;
+          take = take .1;
+          nest = omega (arith, r .nest);
+        };
+      }

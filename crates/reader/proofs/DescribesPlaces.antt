@@ -7,7 +7,7 @@ use Rattle.std.proofs.shelf.Tests.{cond-true}
 use Rattle.words.specs.Lexemes.{Lexeme, Opening, Closing, Word, LineEnd, TextEnd, Forbidden}
 use Rattle.words.specs.Spelling.{name-shape}
 use Rattle.circuit.specs.Model.{Circuit}
-use Rattle.reader.specs.Reading.{Due, Outcome, Step, Go, Stop, step, run, word-step, malformed}
+use Rattle.reader.specs.Reading.{Due, Outcome, Step, Go, Stop, step, run, word-step}
 use Rattle.reader.specs.Describes.{Mark, opening, closing, word, line-feed, other, unplaced}
 
 -- the lexemes are the marks, at whatever places, and then the rest
@@ -69,13 +69,13 @@ pub record Led (rest : List Lexeme) (due : Due) (c : Circuit) (ts : List Lexeme)
 abbrev pub Leads : Due → Circuit → List Mark → Due → Circuit → List Mark → Type 0
 Leads due c ms next d ns = (rest ts : List Lexeme) → Placed rest ms ts → Led rest due c ts next d ns
 
-module _ {due next : Due} {c d : Circuit} {ms ns : List Mark} where
-  -- one more way on
-  pub and-then : {last : Due} {e : Circuit} {os : List Mark} → Leads due c ms next d ns → Leads next d ns last e os → Leads due c ms last e os
-  and-then f g rest ts p =
-      let a = f rest ts p in
-      let b = g rest (a .left) (a .placed) in
-      record { left = b .left; placed = b .placed; same = a .same ∙ b .same }
+infixr 20 _then_
+pub _then_ : {due next last : Due} {c d e : Circuit} {ms ns os : List Mark}
+    → Leads due c ms next d ns → Leads next d ns last e os → Leads due c ms last e os
+_then_ f g rest ts p =
+    let a = f rest ts p in
+    let b = g rest (a .left) (a .placed) in
+    record { left = b .left; placed = b .placed; same = a .same ∙ b .same }
 
 module _ {due next : Due} {c d : Circuit} {ms : List Mark} where
   pub stays : due ≡ next → c ≡ d → Leads due c ms next d ms
@@ -95,4 +95,4 @@ module _ {due next : Due} {c d : Circuit} {ms : List Mark} where
 
   pub on-word : (w : List ℕ) → name-shape w ≡ true → ((n : ℕ) → word-step due c w n ≡ Go next d) → Leads due c (word w ∷ ms) next d ms
   on-word w shape e rest _ (placed-word {ts} v n p) =
-      on rest (Word v n) ts (cond-true (name-shape v) (word-step due c v n) (malformed n) shape ∙ e n) p
+      on rest (Word v n) ts (cond-true _ _ _ shape ∙ e n) p

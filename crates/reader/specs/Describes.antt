@@ -200,6 +200,7 @@ GateLinesRules c (g ∷ gs) = GateLineRules c g × GateLinesRules (with-gate-lin
 abbrev pub unlisted : List ℕ → ℕ → Bool
 unlisted before line = not (some (eqb line) before)
 
+-- The rules for a source. A name is given once, is known from the line behind it on, and has the shape of a name.
 pub record Rules (s : Source) : Type 0 where
   pub input-count : between 1 64 (length (s .inputs)) ≡ true
   pub inputs-shaped : every name-shape (s .inputs) ≡ true
@@ -212,18 +213,19 @@ pub record Rules (s : Source) : Type 0 where
   pub no-line-twice : each-after unlisted [] (map (number-of (all-lines s)) (s .outputs)) ≡ true
 
 -- The text describes the circuit: it begins with the words of a source that keeps the rules and stands for the circuit.
--- Its rest, of which nothing is asked, begins at the place.
+-- Its lexemes are those of the source, the end of the source's last line, and others. The rest of the text, of which
+-- nothing is asked, begins at the place.
 pub record Describes (text : List ℕ) (c : Circuit) (place : ℕ) : Type 0 where
   pub size : length text ≤ 65536
   pub source : Source
   pub rules : Rules source
+  pub circuit-is : c ≡ stands-for source
   pub front : List Lexeme
   pub end : Lexeme
   pub after : List Lexeme
   pub text-is : lexemes 0 text ≡ front ++ (end ∷ after)
   pub front-is : map unplaced front ≡ words-of source
   pub ended : rest-place end ≡ Some place
-  pub circuit-is : c ≡ stands-for source
 
 -- Reading grants just the texts that describe a circuit, with that circuit and the place of the rest.
 abbrev pub Reads-what-is-described : Type 0
