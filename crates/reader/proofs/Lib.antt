@@ -3,3 +3,9 @@ pub mod Rules
 pub mod Lawful
 pub mod Taking
 pub mod Steps
+pub mod DescribesPlaces
+pub mod DescribesLines
+pub mod DescribesComplete
+pub mod DescribesLeft
+pub mod DescribesSound
+pub mod Promised

@@ -1,2 +1,4 @@
 pub mod Reading
+pub mod Describes
 pub mod Parsing
+pub mod Promises

@@ -4,8 +4,9 @@ mod head;
 mod lines;
 mod parser;
 pub mod reading;
+pub mod rest;
 mod text;
 mod tokens;
 
-pub use reading::Rest;
 pub use reading::read;
+pub use rest::Rest;

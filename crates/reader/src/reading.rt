@@ -1,34 +1,19 @@
 // Reading a circuit, for callers.
-ghost use denote.Ref.{now as pointed};
-ghost use mathlib.Core.Path.{_≡_};
-ghost use mathlib.Core.List.{List};
-ghost use Prim.Native.Nat.{ℕ};
-ghost use lib.ListN.{drop};
-ghost use Rattle.std.specs.Results.{Cases};
 ghost use Rattle.circuit.specs.Circuits.{circuit-model};
-ghost use Rattle.circuit.specs.Model.{blank};
-ghost use Rattle.reader.specs.Reading.{Granted, reading};
-ghost use Rattle.reader.specs.Parsing.{Refuses};
+ghost use Rattle.reader.specs.Describes.{One-circuit};
+ghost use Rattle.reader.specs.Promises.{Reads, Follows};
 use crate::parser::Parser;
+use crate::rest::Rest;
 use circuit::Circuit;
 use refusals::CircuitRefusal;
 use refusals::Refusal;
 use refusals::RefusalFromCircuit;
 use std::alloc::Global;
 
-pub const LONGEST_TEXT: usize = 65_536;
+const LONGEST_TEXT: usize = 65_536;
 
-// The part of a text after its circuit, and the place where it begins.
-#[derive(Clone, Copy)]
-pub struct Rest<'a> {
-    pub bytes: &'a [u8],
-    pub place: usize,
-}
-
-// Reads the circuit at the front of a text into the caller's circuit, and hands back the rest of the text. A text that is
-// refused leaves the blank circuit.
-pub fn read<'a>(heap: Global, text: &'a [u8], circuit: &mut Circuit) -> Result<Rest<'a>, Refusal>
-    ensures read { λ r. ⌜ Cases r (λ rest. (reading (now (text .entry)) ≡ Granted (circuit-model (now (circuit .exit))) (rest .place)) × (pointed (rest .bytes) ≡ drop (rest .place) (now (text .entry)))) (λ e. Refuses (reading (now (text .entry))) e × (circuit-model (now (circuit .exit)) ≡ blank)) ⌝ }
+fn read_text<'a>(heap: Global, text: &'a [u8], circuit: &mut Circuit) -> Result<Rest<'a>, Refusal>
+    ensures { λ r. ⌜ Reads (now (text .entry)) r (circuit-model (now (circuit .exit))) ⌝ }
 {
     circuit.clear();
     if text.len() > LONGEST_TEXT {
@@ -49,4 +34,14 @@ pub fn read<'a>(heap: Global, text: &'a [u8], circuit: &mut Circuit) -> Result<R
     }
     let (_, bytes) = text.split_at(place);
     Ok(Rest { bytes, place })
+}
+
+// Reads the circuit at the front of a text into the caller's circuit, and hands back the rest of the text. A text that is
+// refused leaves the blank circuit.
+pub fn read<'a>(heap: Global, text: &'a [u8], circuit: &mut Circuit) -> Result<Rest<'a>, Refusal>
+    ensures reads { λ r. ⌜ Reads (now (text .entry)) r (circuit-model (now (circuit .exit))) ⌝ }
+    ensures follows { λ r. ⌜ Follows (now (text .entry)) r (circuit-model (now (circuit .exit))) ⌝ }
+    ensures unique { λ _. ⌜ One-circuit ⌝ }
+{
+    read_text(heap, text, circuit)
 }
