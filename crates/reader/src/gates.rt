@@ -1,5 +1,5 @@
-// The inside of a gate. The reader of a gate and the reader of its operands call each other, and each bracket that is
-// opened leaves one less to open.
+// The inside of a gate. `gate` and `operands` are mutually recursive, and each bracket that is opened leaves one less that
+// may be.
 ghost use denote.Ref.{now as pointed};
 ghost use mathlib.Core.Path.{_≡_};
 ghost use mathlib.Core.Bool.{Bool, true, false};
