@@ -8,11 +8,11 @@ ghost use Prim.Native.Nat.{ℕ, _+_, _≤_, _<_};
 ghost use lib.ListN.{length};
 ghost use Rattle.std.specs.Of.Vec.{vec-items};
 ghost use Rattle.std.specs.Vec.{made};
+ghost use Rattle.words.specs.Expected.{is-closing};
 ghost use Rattle.words.specs.Lexemes.{lexeme, is-end};
 ghost use Rattle.reader.specs.Reading.{Pending, operator, operand, full, with-operand, gate-made, closing-step, step};
-ghost use Rattle.reader.specs.Parsing.{ahead, so-far, at, resumed, Leads, is-closing};
+ghost use Rattle.reader.specs.Parsing.{ahead, so-far, at, resumed, Leads};
 use crate::parser::Parser;
-use crate::tokens::expect_word;
 use circuit::Gate;
 use circuit::Op;
 use refusals::CircuitRefusal;
@@ -24,6 +24,7 @@ use refusals::RefusalFromRefused;
 use refusals::RefusalFromText;
 use refusals::TextRefusal;
 use words::Token;
+use words::expect_word;
 
 pub const MOST_LINES: usize = 512;
 

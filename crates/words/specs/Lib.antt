@@ -1,4 +1,5 @@
 pub mod Bytes
+pub mod Expected
 pub mod Left
 pub mod Lexemes
 pub mod Lists

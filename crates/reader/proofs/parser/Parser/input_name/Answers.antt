@@ -6,7 +6,8 @@ use Rattle.refusals.specs.declared.cause.Refusal.the-variants as refusal
 use Rattle.refusals.specs.declared.layers.CircuitRefusal.the-variants.{LimitPassed}
 use Rattle.circuit.specs.Model.{Circuit}
 use Rattle.reader.specs.Reading.{input-name, run}
-use Rattle.reader.specs.Parsing.{so-far, ahead, is-name-word}
+use Rattle.words.specs.Expected.{is-name-word}
+use Rattle.reader.specs.Parsing.{so-far, ahead}
 use Rattle.reader.proofs.Steps.{refuses-as, resumed-at, input-limit, input-added, many-inputs, few-inputs, input-pushed}
 use Rattle.reader.proofs.parser.Parser.input_name.Needs as need
 
