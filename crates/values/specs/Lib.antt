@@ -1,0 +1,5 @@
+pub mod Pairs
+pub mod Values
+pub mod Kind
+pub mod Made
+pub mod Five
