@@ -1,2 +1,5 @@
 pub mod ByTest
+pub mod HalvesOf
 pub mod FiveLaws
+pub mod NineLaws
+pub mod SevenLaws

@@ -3,3 +3,7 @@ pub mod Values
 pub mod Kind
 pub mod Made
 pub mod Five
+pub mod Halves
+pub mod Nine
+pub mod Seven
+pub mod KnownValues

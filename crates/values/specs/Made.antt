@@ -2,7 +2,7 @@
 use mathlib.Core.Path.{_≡_}
 use mathlib.Core.Bool.{Bool, true, false, not, _&&_, _||_, cond}
 use mathlib.Core.List.{List, [], _∷_}
-use mathlib.Core.Logic.{_⊎_}
+use mathlib.Core.Logic.{_⊎_, _↔_}
 use Rattle.values.specs.Pairs.{Pair, Pairs, pair, has, _∈_, _⊆_, only, no-pair, every-pair}
 use Rattle.values.specs.Values.{Gates, Values, pairs}
 use Rattle.values.specs.Kind.{Kind}
@@ -26,6 +26,12 @@ made-by-one f s = union-over s (λ p. only (f p .good) (f p .faulty))
 -- the pairs that f makes of two operands' pairs
 abbrev pub made-by-two : (Pair → Pair → Pair) → Pairs → Pairs → Pairs
 made-by-two f s t = union-over s (λ p. made-by-one (f p) t)
+
+-- the pairs that operands can make are those, and no others
+pub record MadeExactly : Type 0 where
+  pub by-one : (f : Pair → Pair) (s : Pairs) (r : Pair) → (r ∈ made-by-one f s) ↔ ((p : Pair) × (p ∈ s) × (r ≡ f p))
+  pub by-two : (f : Pair → Pair → Pair) (s t : Pairs) (r : Pair)
+      → (r ∈ made-by-two f s t) ↔ ((p : Pair) × (q : Pair) × (p ∈ s) × (q ∈ t) × (r ≡ f p q))
 
 -- s is one of the listed sets
 abbrev pub Among : List Pairs → Pairs → Type 0
