@@ -1,5 +1,7 @@
+pub mod Tests
+pub mod Members
 pub mod ByTest
 pub mod HalvesOf
 pub mod FiveLaws
-pub mod NineLaws
 pub mod SevenLaws
+pub mod NineLaws

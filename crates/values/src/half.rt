@@ -11,6 +11,7 @@ pub enum Half {
 }
 
 impl Half {
+    // The half of a known level.
     pub fn known(level: bool) -> Half
         ensures { λ r. ⌜ r ≡ level-half level ⌝ }
     {

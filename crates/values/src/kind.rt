@@ -21,7 +21,7 @@ pub trait ValueKind: Copy {
     // Each value admits a set of the family, which is never empty.
     law admitted: { (x : Self) → family (meaning x) };
 
-    // The value of an input that is driven to a level.
+    // The value of an input that is driven to a level: it admits that level twice, and no other pair.
     fn known(level: bool) -> Self
         ensures { λ r. ⌜ meaning r ≡ kind .values .gates .known level ⌝ };
 
@@ -29,6 +29,7 @@ pub trait ValueKind: Copy {
     fn unknown() -> Self
         ensures { λ r. ⌜ meaning r ≡ kind .unknown ⌝ };
 
+    // What a gate makes of its operands.
     fn not(self) -> Self
         ensures { λ r. ⌜ meaning r ≡ kind .values .gates .negate (meaning self) ⌝ };
 

@@ -13,7 +13,7 @@ ghost use Rattle.values.specs.Seven.{Seven-smallest};
 
 // What follows runs nothing: each contract is a theorem that the crate owes.
 
-// The pairs that operands can make are those of the operands' pairs worked out level by level, and no others.
+// What operands can make is what the function gives of their pairs, and no other pair.
 pub fn made_is_exact()
     ensures { λ _. ⌜ MadeExactly ⌝ }
 {}
