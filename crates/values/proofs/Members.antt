@@ -30,7 +30,7 @@ union-has s f false true q h k = in-left _ _ q (in-left _ _ q (in-right _ _ q (i
 union-has s f true false q h k = in-left _ _ q (in-right _ _ q (in-cond (s .has10) _ q h k))
 union-has s f true true q h k = in-right _ _ q (in-cond (s .has11) _ q h k)
 
-only-has : (g f : Bool) → pair g f ∈ only g f
+pub only-has : (g f : Bool) → pair g f ∈ only g f
 only-has false false = refl
 only-has false true = refl
 only-has true false = refl

@@ -75,14 +75,12 @@ pub impl ValueKind for Five as FiveKind {
     }
 
     fn stick(self, level: bool) -> Five {
-        match self {
-            Five::BothZero | Five::FaultyOne => if level {
-                Five::FaultyOne
-            } else {
-                Five::BothZero
-            },
-            Five::BothOne | Five::GoodOne => if level { Five::BothOne } else { Five::GoodOne },
-            Five::Any => Five::Any,
+        match (self, level) {
+            (Five::BothZero | Five::FaultyOne, false) => Five::BothZero,
+            (Five::BothZero | Five::FaultyOne, true) => Five::FaultyOne,
+            (Five::BothOne | Five::GoodOne, false) => Five::GoodOne,
+            (Five::BothOne | Five::GoodOne, true) => Five::BothOne,
+            (Five::Any, _) => Five::Any,
         }
     }
 
