@@ -1,9 +1,18 @@
 // How cubes come to be, and what a caller can ask of one.
 ghost use mathlib.Core.Path.{_≡_};
+ghost use lib.Bits.{bitAnd};
+ghost use lib.Dec.{eqb};
 ghost use Rattle.std.specs.Results.{Cases, mapped};
 ghost use Rattle.faults.specs.Cubes.{Within, cube-model, cube-made, nothing-driven};
 use crate::cube::Cube;
 use refusals::FolderRefusal;
+
+// Whether every 1 of a word stands where the other has a 1 too.
+fn lies_within(word: u64, other: u64) -> bool
+    ensures { λ r. ⌜ r ≡ eqb (bitAnd word other) word ⌝ }
+{
+    word & other == word
+}
 
 impl Cube {
     // The cube that drives these inputs to these levels; a level on an input that is open is refused.
@@ -11,11 +20,10 @@ impl Cube {
         ensures value { λ r. ⌜ mapped cube-model (λ e. e) r ≡ cube-made driven level ⌝ }
         ensures rule { λ r. ⌜ Cases r (λ _. Within driven level) (λ _. Within driven level → ⊥) ⌝ }
     {
-        if level & driven == level {
-            Ok(Cube { driven, level })
-        } else {
-            Err(FolderRefusal::LevelNotDriven)
+        if !lies_within(level, driven) {
+            return Err(FolderRefusal::LevelNotDriven);
         }
+        Ok(Cube { driven, level })
     }
 
     // The cube that leaves every input open.

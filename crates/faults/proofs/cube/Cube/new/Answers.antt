@@ -1,11 +1,18 @@
+use mathlib.Core.Path.{sym}
 use borrow.Author.Needs.{needs}
+use lib.Bits.{bitAnd}
+use Rattle.std.proofs.shelf.Tests.{eqb-true, eqb-false}
 use Rattle.faults.proofs.Bits.{within-bits, within-and}
 use Rattle.faults.proofs.cube.Cube.new.Needs as need
 
-pub returns-then-level-driven : need.returns-then-level-driven
-returns-then-level-driven c =
-    record { value = search needs; rule = within-bits (c .args .driven) (c .args .level) (c .if-level-driven .taken) }
+pub returns-then-not-lies-within : need.returns-then-not-lies-within
+returns-then-not-lies-within c = record {
+  value = search needs;
+  rule = λ w. eqb-false (bitAnd (c .args .level) (c .args .driven)) (c .args .level) (sym (c .if-not-lies-within .ensures tt)) (within-and (c .args .driven) (c .args .level) w);
+}
 
-pub returns-else-level-driven : need.returns-else-level-driven
-returns-else-level-driven c =
-    record { value = search needs; rule = λ w. c .if-level-driven .left (within-and (c .args .driven) (c .args .level) w) }
+pub returns : need.returns
+returns c = record {
+  value = search needs;
+  rule = within-bits (c .args .driven) (c .args .level) (eqb-true (bitAnd (c .args .level) (c .args .driven)) (c .args .level) (sym (c .if-not-lies-within .ensures tt)));
+}
