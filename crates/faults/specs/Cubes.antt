@@ -15,6 +15,7 @@ pub record Cube : Type 0 where
   pub driven : ℕ
   pub level : ℕ
 
+-- what a cube of the code stands for
 abbrev pub cube-model : code.Cube → Cube
 cube-model c = record { driven = c .driven; level = c .level }
 
@@ -26,5 +27,6 @@ Within driven level = (i : ℕ) → driven / 2 ^ i % 2 ≡ 0 → level / 2 ^ i %
 abbrev pub cube-made : ℕ → ℕ → Result Cube FolderRefusal
 cube-made driven level = cond (eqb (bitAnd level driven) level) (Ok (record { driven = driven; level = level })) (Err LevelNotDriven)
 
+-- the cube that leaves every input open
 abbrev pub nothing-driven : Cube
 nothing-driven = record { driven = 0; level = 0 }

@@ -12,6 +12,7 @@ use Rattle.refusals.specs.declared.layers.FolderRefusal.the-variants.{NoSuchLin
 use Rattle.circuit.specs.Model.{Gate, Circuit, line-count, gate-at}
 use Rattle.faults.specs.declared.fault.Fault.{Fault}
 
+-- how many operands a gate has, if there is one
 abbrev pub operands-of : Option Gate → ℕ
 operands-of None = 0
 operands-of (Some g) = length (g .operands)
@@ -20,6 +21,7 @@ operands-of (Some g) = length (g .operands)
 abbrev pub operand-count : Circuit → ℕ → ℕ
 operand-count c line = operands-of (gate-at c line)
 
+-- the fault of these parts
 abbrev pub fault : ℕ → ℕ → Bool → Fault
 fault line pin level = record { line = line; pin = pin; level = level }
 
@@ -31,9 +33,11 @@ fault-made c line pin level =
     (cond (ltb (operand-count c line) pin) (Err NoSuchPin)
     (cond (ltb 1 level) (Err LevelAboveOne) (Ok (fault line pin (eqb level 1)))))
 
+-- whether two levels are one
 abbrev pub same-level : Bool → Bool → Bool
 same-level true b = b
 same-level false b = not b
 
+-- whether two faults are one: the same pin of the same line, stuck at the same level
 abbrev pub same-fault : Fault → Fault → Bool
 same-fault f g = eqb (f .line) (g .line) && (eqb (f .pin) (g .pin) && same-level (f .level) (g .level))

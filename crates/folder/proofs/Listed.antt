@@ -14,6 +14,7 @@ use Rattle.faults.specs.Faults.{same-fault}
 use Rattle.folder.specs.declared.entry.Entry as code
 use Rattle.folder.specs.Entries.{Entry, entry-model, has-fault}
 
+-- whether an entry has that fault
 abbrev has : Fault → Entry → Bool
 has f e = same-fault (e .fault) f
 
@@ -34,5 +35,6 @@ module _ (entries : List code.Entry) (f : Fault) (i : ℕ) where
   pub listed-end : (d : Entry) → length entries ≤ i → has-fault (drop i (map entry-model entries)) f ≡ false
   listed-end d h = some-end (has f) (map entry-model entries) i d (simp length-map h)
 
+-- the entry of a number, as the code reads it
 pub nth-read : (entries : List code.Entry) (i : ℕ) (e : code.Entry) → i < length entries → e ≡ getD entries i e → Some e ≡ nth entries i
 nth-read entries i e h is = sym (nth-getD entries i e h ∙ ap Some (sym is))

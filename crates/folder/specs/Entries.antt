@@ -22,10 +22,12 @@ pub data State : Type 0 where
   Redundant : ℕ → State
   Covered : ℕ → State
 
+-- a fault, and what is known of it
 pub record Entry : Type 0 where
   pub fault : Fault
   pub state : State
 
+-- what a state of the code stands for
 abbrev pub state-model : code-state.State → State
 state-model state.Open = Open
 state-model (state.Spent cube tries) = Spent (mapped cube-model cube) tries
@@ -33,13 +35,15 @@ state-model (state.Fewest cube tries) = Fewest (cube-model cube) tries
 state-model (state.Redundant tries) = Redundant tries
 state-model (state.Covered by) = Covered by
 
+-- what an entry of the code stands for
 abbrev pub entry-model : code-entry.Entry → Entry
 entry-model e = record { fault = e .fault; state = state-model (e .state) }
 
+-- a new entry of a fault, as the code has it
 abbrev pub new-entry : Fault → code-entry.Entry
 new-entry f = record { fault = f; state = state.Open }
 
--- a new entry of a fault
+-- a new entry of a fault, as the definitions have it
 abbrev pub opened : Fault → Entry
 opened f = record { fault = f; state = Open }
 

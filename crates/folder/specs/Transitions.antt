@@ -22,6 +22,7 @@ pub record Granted (A : Type 0) : Type 0 where
   pub answer : A
   pub table : List Entry
 
+-- that answer, and that table
 abbrev pub granted : {A : Type 0} → A → List Entry → Granted A
 granted a table = record { answer = a; table = table }
 
@@ -35,6 +36,7 @@ Follows defined before (Err (refusal.Text e)) after = ⊥
 Follows defined before (Err (refusal.Form e)) after = ⊥
 Follows defined before (Err (refusal.Circuit e)) after = ⊥
 
+-- enter what was made of the arguments
 abbrev pub entered : List Entry → Result Fault FolderRefusal → Result (Granted ℕ) FolderRefusal
 entered table (Err e) = Err e
 entered table (Ok f) =
