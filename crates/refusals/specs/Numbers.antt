@@ -7,7 +7,7 @@ use Rattle.refusals.specs.declared.layers.FormRefusal.the-variants.{Misplaced,
 use Rattle.refusals.specs.declared.layers.CircuitRefusal.{CircuitRefusal}
 use Rattle.refusals.specs.declared.layers.CircuitRefusal.the-variants.{UnknownName, NameTaken, LimitPassed, EndsEarly}
 use Rattle.refusals.specs.declared.layers.FolderRefusal.{FolderRefusal}
-use Rattle.refusals.specs.declared.layers.FolderRefusal.the-variants.{NoSuchLine, NoSuchPin, LevelAboveOne, AlreadyEntered, FolderFull}
+use Rattle.refusals.specs.declared.layers.FolderRefusal.the-variants.{NoSuchLine, NoSuchPin, LevelAboveOne, AlreadyEntered, FolderFull, LevelNotDriven}
 
 abbrev pub text-number : TextRefusal → ℕ
 text-number (ForbiddenByte place) = 1
@@ -47,3 +47,4 @@ folder-number NoSuchPin = 12
 folder-number LevelAboveOne = 13
 folder-number AlreadyEntered = 14
 folder-number FolderFull = 15
+folder-number LevelNotDriven = 22

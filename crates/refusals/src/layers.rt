@@ -114,6 +114,7 @@ pub enum FolderRefusal {
     LevelAboveOne,
     AlreadyEntered,
     FolderFull,
+    LevelNotDriven,
 }
 
 impl FolderRefusal {
@@ -126,6 +127,7 @@ impl FolderRefusal {
             FolderRefusal::LevelAboveOne => 13,
             FolderRefusal::AlreadyEntered => 14,
             FolderRefusal::FolderFull => 15,
+            FolderRefusal::LevelNotDriven => 22,
         }
     }
 }

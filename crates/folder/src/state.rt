@@ -1,0 +1,16 @@
+// What is known of a fault.
+use faults::Cube;
+
+#[derive(Clone, Copy)]
+pub enum State {
+    // nothing yet
+    Open,
+    // the search ran out of tries; the cube is the best that it met
+    Spent { cube: Option<Cube>, tries: u32 },
+    // a test that drives as few inputs as any
+    Fewest { cube: Cube, tries: u32 },
+    // no vector detects the fault
+    Redundant { tries: u32 },
+    // the cube of another entry detects it
+    Covered { by: usize },
+}
