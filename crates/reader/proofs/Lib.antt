@@ -1,7 +1,6 @@
 pub mod Ends
 pub mod Rules
 pub mod Lawful
-pub mod Taking
 pub mod Steps
 pub mod DescribesPlaces
 pub mod DescribesLines

@@ -16,6 +16,7 @@ use Rattle.std.specs.Vec.{made}
 use Rattle.refusals.specs.declared.cause.Refusal.{Refusal}
 use Rattle.refusals.specs.declared.cause.Refusal.the-variants as refusal
 use Rattle.refusals.specs.declared.layers.CircuitRefusal.the-variants.{LimitPassed}
+use Rattle.words.specs.Left.{onward}
 use Rattle.words.specs.Lexemes.{Lexeme, Opening, Closing, Word, LineEnd, TextEnd, Forbidden, lexemes}
 use Rattle.words.specs.Spelling.{name-shape}
 use Rattle.circuit.specs.declared.name.Name.{Name}
@@ -26,7 +27,7 @@ use Rattle.circuit.specs.Tables.{name-bytes, gate-model, tables-model}
 use Rattle.circuit.proofs.Sizes.{inputs-count, outputs-count}
 use Rattle.reader.specs.Reading.{Due, inputs-line, input-name, line-end, operator, operand, Pending, full, too-few, closing-step, gate-made, made-gate, misplaced, Step, Go, Stop, Outcome, Refused, run, empty, reading, taken, limit-passed, with-input, with-gate, with-output, with-name, last-named, step}
 use Rattle.reader.specs.declared.parser.Parser.{Parser}
-use Rattle.reader.specs.Parsing.{onward, ahead, so-far, at, resumed, Refuses, Leads}
+use Rattle.reader.specs.Parsing.{ahead, so-far, at, resumed, Refuses, Leads}
 
 -- the error that was made is the refusal of the definition
 pub refuses-as : (o : Outcome) (e f : Refusal) → e ≡ f → Refuses o f → Refuses o e

@@ -21,15 +21,6 @@ use Rattle.reader.specs.declared.head.Head.{Head}
 use Rattle.reader.specs.declared.head.Head.the-variants as head
 use Rattle.reader.specs.Reading.{Due, gate-name, output-name, Step, Go, Stop, Outcome, Refused, run, taken}
 
--- the lexemes after one of them: none after the text's end
-abbrev pub onward : Lexeme → List Lexeme → List Lexeme
-onward (TextEnd n) ts = []
-onward (Opening n) ts = ts
-onward (Closing n) ts = ts
-onward (Word word n) ts = ts
-onward (LineEnd n) ts = ts
-onward (Forbidden n) ts = ts
-
 -- the lexemes that a parser has yet to read, and the circuit that it has read
 abbrev pub ahead : Parser → List Lexeme
 ahead p = left (p .lexer)

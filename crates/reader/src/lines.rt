@@ -15,7 +15,7 @@ ghost use Rattle.words.specs.Spelling.{name-shape};
 ghost use Rattle.circuit.specs.Model.{names, line-named, line-count};
 ghost use Rattle.circuit.specs.Tables.{name-bytes};
 ghost use Rattle.reader.specs.Reading.{Granted, inputs-line, inputs-head, input-name, line-end, next-line, next-head, gate-name, gate-begin, operator, gate-line-close, output-name, outputs-end, is-head, taken, step};
-ghost use Rattle.reader.specs.Parsing.{ahead, so-far, at, onward, resumed, Leads, is-new-name, not-new, after-head};
+ghost use Rattle.reader.specs.Parsing.{ahead, so-far, at, resumed, Leads, is-new-name, not-new, after-head};
 use crate::head::Head;
 use crate::parser::Parser;
 use circuit::Name;

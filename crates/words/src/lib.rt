@@ -3,6 +3,7 @@ mod bytes;
 pub mod expect;
 pub mod lexer;
 pub mod spelling;
+mod taking;
 pub mod token;
 
 pub use expect::PlacedWord;

@@ -2,7 +2,7 @@ use mathlib.Core.Path.{_∙_}
 use native.Mathlib.Omega.{arith}
 use Rattle.words.specs.declared.bytes.ByteClass.the-variants.{Space}
 use Rattle.words.proofs.Runs.{byte-step}
-use Rattle.words.proofs.lexer.past_spaces.Needs as need
+use Rattle.words.proofs.taking.past_spaces.Needs as need
 
 pub loop-place-again : need.loop-place-again
 loop-place-again c = (

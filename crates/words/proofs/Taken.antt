@@ -6,9 +6,9 @@ use Prim.Native.Nat.{ℕ, _≤_}
 use native.Mathlib.Omega.{arith}
 use lib.ListN.{length}
 use denote.Ref.{RefT}
-use Rattle.words.specs.Left.{left}
+use Rattle.words.specs.Left.{onward}
 use Rattle.words.specs.Lexemes.{Lexeme, Opening, Closing, Word, LineEnd, TextEnd, Forbidden, lexemes-from, following, end-of, is-end}
-use Rattle.reader.specs.Parsing.{onward}
+
 
 module _ (text : List ℕ) (place next : ℕ) where
   onward-is : (t : Lexeme) → next ≡ end-of t → following text t ≡ onward t (lexemes-from text next)

@@ -2,7 +2,7 @@ use mathlib.Core.Path.{sym, _∙_}
 use native.Mathlib.Omega.{arith}
 use Rattle.std.proofs.shelf.Sums.{leading-drop-yes, leading-drop-no, leading-drop-all}
 use Rattle.words.specs.Bytes.{in-word}
-use Rattle.words.proofs.lexer.word_end.Needs as need
+use Rattle.words.proofs.taking.word_end.Needs as need
 
 pub loop-place-again : need.loop-place-again
 loop-place-again c =

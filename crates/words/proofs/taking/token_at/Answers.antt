@@ -9,7 +9,7 @@ use Rattle.words.specs.declared.bytes.ByteClass.the-variants as class-of
 use Rattle.words.specs.Bytes.{class}
 use Rattle.words.specs.Lexemes.{lexemes}
 use Rattle.words.proofs.Runs.{byte-step, word-at}
-use Rattle.words.proofs.lexer.token_at.Needs as need
+use Rattle.words.proofs.taking.token_at.Needs as need
 
 pub returns-then-place-text : need.returns-then-place-text
 returns-then-place-text c = record {
