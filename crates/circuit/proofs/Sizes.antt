@@ -2,12 +2,13 @@
 use mathlib.Core.Path.{_≡_, refl, sym, ap, _∙_}
 use mathlib.Core.Bool.{Bool, true, false, _&&_, false≢true}
 use mathlib.Core.List.{List, [], map}
-use Prim.Native.Nat.{ℕ, _+_}
+use Prim.Native.Nat.{ℕ, _+_, _≤_}
 use lib.Dec.{leb}
 use lib.ListN.{length}
 use Rattle.std.specs.Of.Vec.{vec-items, vec-len}
 use Rattle.std.proofs.shelf.Lists.{length-map}
-use Rattle.std.proofs.shelf.Tests.{and-left}
+use native.Mathlib.Omega.{arith}
+use Rattle.std.proofs.shelf.Tests.{and-left, and-parts, leb-true}
 use Rattle.circuit.specs.declared.tables.Tables.{Tables}
 use Rattle.circuit.specs.Model.{Gate, names, line-count}
 use Rattle.circuit.specs.Lawful.{between, each-after, gate-fits, unclaimed, new-output, lawful}
@@ -76,3 +77,9 @@ module _ (t : Tables) (i g o : ℕ) (e : i ≡ vec-len (t .inputs)) (h : g ≡ v
 
   pub passes : (r : Bool) → sized t i g o ≡ true → gated t i ≡ true → named t ≡ true → r ≡ listed t (i + g) → r ≡ lawful (tables-model t)
   passes r a b c d = d ∙ sym (lawful-parts t i g o e h k ∙ and-on _ _ a ∙ and-on _ _ b ∙ and-on _ _ c)
+
+-- a circuit has at most 64 inputs
+pub few-inputs : (t : Tables) → lawful (tables-model t) ≡ true → vec-len (t .inputs) ≤ 64
+few-inputs t h =
+    let inputs = and-parts (between 1 64 (length (tables-model t .inputs))) _ h .0 in
+    omega (arith, inputs-count t, leb-true (length (tables-model t .inputs)) 64 (and-parts (leb 1 (length (tables-model t .inputs))) (leb (length (tables-model t .inputs)) 64) inputs .1))

@@ -2,6 +2,7 @@
 ghost use mathlib.Core.Path.{_≡_};
 ghost use mathlib.Core.Bool.{true, false};
 ghost use mathlib.Core.List.{_∷_, []};
+ghost use Rattle.std.specs.declared.option.Option.the-variants.{Some};
 ghost use Rattle.std.specs.Of.Vec.{vec-items};
 ghost use Rattle.std.specs.Options.{Cases as ByOption};
 ghost use Rattle.std.specs.Vec.{made};
@@ -9,6 +10,7 @@ ghost use Rattle.words.specs.Spelling.{name-shape};
 use std::alloc::AllocError;
 use std::alloc::Global;
 use std::fmt;
+use std::str;
 use words::is_name;
 
 #[derive(Drop)]
@@ -49,5 +51,17 @@ impl Name {
     {
         self.bytes.truncate(1);
         self.bytes[0] = b'a';
+    }
+}
+
+// A name as it is written.
+pub impl fmt::Display for Name as NameDisplay {
+    ghost shown = { λ n. Some (vec-items (n .bytes)) };
+
+    fn fmt<W: fmt::Write>(&self, f: &mut fmt::Formatter<W>) -> fmt::Result {
+        match str::from_utf8(self.bytes()) {
+            Ok(text) => f.write_str(text),
+            Err(_) => unreachable(),
+        }
     }
 }

@@ -39,7 +39,8 @@ impl Tables {
 
 impl Circuit {
     pub fn input_count(&self) -> usize
-        ensures { λ r. ⌜ r ≡ length (circuit-model (now (self .entry)) .inputs) ⌝ }
+        ensures value { λ r. ⌜ r ≡ length (circuit-model (now (self .entry)) .inputs) ⌝ }
+        ensures bound { λ r. ⌜ r ≤ 64 ⌝ }
     {
         self.tables.inputs.len()
     }

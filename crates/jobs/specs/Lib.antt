@@ -1,3 +1,4 @@
+pub mod Kinds
 pub mod Numbers
 pub mod JobLines
 pub mod Reading

@@ -1,4 +1,7 @@
 // What a job line asks for.
+ghost use Rattle.std.specs.declared.option.Option.the-variants.{Some};
+ghost use Rattle.jobs.specs.Kinds.{kind-text};
+use std::fmt;
 
 // A value kind, by its name.
 #[derive(Clone, Copy)]
@@ -31,4 +34,17 @@ pub enum Head {
 pub struct JobLine {
     pub job: Job,
     pub next: usize,
+}
+
+// A kind as it is written.
+pub impl fmt::Display for Kind as KindDisplay {
+    ghost shown = { λ k. Some (kind-text k) };
+
+    fn fmt<W: fmt::Write>(&self, f: &mut fmt::Formatter<W>) -> fmt::Result {
+        match self {
+            Kind::Five => f.write_str("five"),
+            Kind::Seven => f.write_str("seven"),
+            Kind::Nine => f.write_str("nine"),
+        }
+    }
 }

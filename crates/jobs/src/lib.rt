@@ -7,4 +7,5 @@ pub mod reading;
 pub use job::Job;
 pub use job::JobLine;
 pub use job::Kind;
+pub use job::KindDisplay;
 pub use reading::read_job;

@@ -1,5 +1,7 @@
 -- What a refusal is reported by: layer, number and place. Want of memory has none of these.
+use mathlib.Core.List.{List}
 use Prim.Native.Nat.{ℕ}
+use lib.Chars.{codes}
 use Rattle.std.specs.declared.option.Option.{Option}
 use Rattle.std.specs.declared.option.Option.the-variants.{Some, None}
 use Rattle.refusals.specs.declared.cause.Refusal.{Refusal}
@@ -18,3 +20,10 @@ cause-of (Form e) = Some (cause layer.Form (form-number e) (form-place e))
 cause-of (Circuit e) = Some (cause layer.Circuit (circuit-number e) (circuit-place e))
 cause-of (Folder e) = Some (cause layer.Folder (folder-number e) 0)
 cause-of Memory = None
+
+-- how a layer is written
+abbrev pub layer-text : Layer → List ℕ
+layer-text layer.Text = codes "text"
+layer-text layer.Form = codes "form"
+layer-text layer.Circuit = codes "circuit"
+layer-text layer.Folder = codes "folder"

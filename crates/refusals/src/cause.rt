@@ -1,6 +1,7 @@
 // A refusal of any layer, with the number, layer and place that it is reported by.
 ghost use mathlib.Core.Path.{_≡_};
-ghost use Rattle.refusals.specs.Causes.{cause-of};
+ghost use Rattle.std.specs.declared.option.Option.the-variants.{Some};
+ghost use Rattle.refusals.specs.Causes.{cause-of, layer-text};
 ghost use Rattle.refusals.specs.declared.cause.Refusal.the-variants.{Text, Form, Circuit, Folder, Memory};
 use crate::layers::CircuitRefusal;
 use crate::layers::CircuitRefusalDebug;
@@ -12,6 +13,7 @@ use crate::layers::TextRefusal;
 use crate::layers::TextRefusalDebug;
 use std::alloc::AllocError;
 use std::alloc::Refused;
+use std::fmt;
 
 // `Memory` is want of memory: it has no number, and nothing was changed.
 #[derive(Clone, Copy, Debug)]
@@ -115,5 +117,19 @@ pub impl<T: Drop> From<Refused<T>> for Refusal as RefusalFromRefused {
 
     fn from(_e: Refused<T>) -> Refusal {
         Refusal::Memory
+    }
+}
+
+// A layer as it is written.
+pub impl fmt::Display for Layer as LayerDisplay {
+    ghost shown = { λ l. Some (layer-text l) };
+
+    fn fmt<W: fmt::Write>(&self, f: &mut fmt::Formatter<W>) -> fmt::Result {
+        match self {
+            Layer::Text => f.write_str("text"),
+            Layer::Form => f.write_str("form"),
+            Layer::Circuit => f.write_str("circuit"),
+            Layer::Folder => f.write_str("folder"),
+        }
     }
 }

@@ -4,6 +4,7 @@ pub mod layers;
 
 pub use cause::Cause;
 pub use cause::Layer;
+pub use cause::LayerDisplay;
 pub use cause::Refusal;
 pub use cause::RefusalFromAlloc;
 pub use cause::RefusalFromCircuit;
