@@ -1,0 +1,9 @@
+// A folder, and the value kind that was chosen for its searches.
+use folder::Folder;
+use jobs::Kind;
+
+#[derive(Drop)]
+pub struct Session {
+    pub(crate) folder: Folder,
+    pub(crate) kind: Option<Kind>,
+}
