@@ -1,6 +1,6 @@
 -- What a session answers to a job line, and what it holds afterwards.
 use mathlib.Core.Path.{_≡_}
-use mathlib.Core.Bool.{Bool, not}
+use mathlib.Core.Bool.{Bool, true, false, not}
 use mathlib.Core.List.{List}
 use Prim.Native.Nat.{ℕ, _+_, min}
 use lib.Dec.{eqb}
@@ -10,6 +10,7 @@ use Rattle.std.specs.declared.option.Option.the-variants.{Some, None}
 use Rattle.std.specs.declared.result.Result.{Result}
 use Rattle.std.specs.declared.result.Result.the-variants.{Ok, Err}
 use Rattle.std.specs.Options.{isSome}
+use Rattle.std.specs.Results.{isOk}
 use Rattle.std.specs.shelf.Lists.{leading}
 use Rattle.refusals.specs.declared.cause.Cause.{Cause}
 use Rattle.refusals.specs.declared.cause.Layer.the-variants as layer
@@ -71,6 +72,17 @@ job-answer s place (job.Kind k) next = record { output = kind-line k; next = nex
 job-answer s place (job.Fault line pin level) next = entered-answer s place next (enter-fault (s .folder) line pin level)
 job-answer s place job.List next = record { output = listing (s .folder .circuit) (s .folder .table); next = next; session = s }
 
+-- the jobs that take memory: a fault that is entered, and a listing
+abbrev pub job-stores : Session → Job → Bool
+job-stores s (job.Kind k) = false
+job-stores s (job.Fault line pin level) = isOk (enter-fault (s .folder) line pin level)
+job-stores s job.List = true
+
+abbrev pub outcome-stores : Session → Outcome → Bool
+outcome-stores s NoMore = false
+outcome-stores s (Asked job next) = job-stores s job
+outcome-stores s (Refused e) = not (isSome (cause-of e))
+
 -- a line that was refused is skipped, from the refusal's place to its line feed
 abbrev pub refused-answer : Session → List ℕ → Option Cause → Option Answered
 refused-answer s text None = None
@@ -81,7 +93,13 @@ outcome-answer s text place NoMore = None
 outcome-answer s text place (Asked job next) = Some (job-answer s place job next)
 outcome-answer s text place (Refused e) = refused-answer s text (cause-of e)
 
+abbrev pub line-outcome : Session → List ℕ → ℕ → Outcome
+line-outcome s text place = run (names (s .folder .circuit)) (isSome (s .kind)) line-begin (lexemes-from text (min place (length text)))
+
 -- the line that begins at a place of the text; nothing where no line begins any more
 abbrev pub answered : Session → List ℕ → ℕ → Option Answered
-answered s text place =
-    outcome-answer s text place (run (names (s .folder .circuit)) (isSome (s .kind)) line-begin (lexemes-from text (min place (length text))))
+answered s text place = outcome-answer s text place (line-outcome s text place)
+
+-- whether the line that begins at a place asks for a job that takes memory
+abbrev pub stores : Session → List ℕ → ℕ → Bool
+stores s text place = outcome-stores s (line-outcome s text place)

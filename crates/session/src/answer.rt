@@ -1,12 +1,13 @@
 // Answering a job line.
 ghost use mathlib.Core.Path.{_≡_};
+ghost use mathlib.Core.Bool.{true};
 ghost use Prim.Native.Nat.{ℕ};
 ghost use Rattle.std.specs.declared.option.Option.the-variants.{None};
-ghost use Rattle.std.specs.Results.{Cases};
+ghost use Rattle.std.specs.Results.{Cases, isOk};
 ghost use Rattle.refusals.specs.declared.cause.Refusal.the-variants.{Memory};
 ghost use Rattle.folder.specs.Folders.{folder-model};
 ghost use Rattle.folder.specs.Transitions.{enter-fault};
-ghost use Rattle.session.specs.Sessions.{session-model, entered-answer, job-answer};
+ghost use Rattle.session.specs.Sessions.{session-model, entered-answer, job-answer, job-stores};
 ghost use Rattle.session.specs.Answers.{Answers, answer-model, replied};
 use crate::lines::line_after;
 use crate::reply::Answer;
@@ -32,7 +33,7 @@ impl Session {
 
     // Enters the fault, or says why not; a refusal by the folder has the place of the job's line.
     fn enter(&mut self, place: usize, line: usize, pin: usize, level: usize) -> Result<Reply, Refusal>
-        ensures { λ r. ⌜ Cases r (λ reply. (next : ℕ) → replied reply next (session-model (now (self .exit))) ≡ entered-answer (session-model (now (self .entry))) place next (enter-fault (session-model (now (self .entry)) .folder) line pin level)) (λ e. (e ≡ Memory) × (session-model (now (self .exit)) ≡ session-model (now (self .entry)))) ⌝ }
+        ensures { λ r. ⌜ Cases r (λ reply. (next : ℕ) → replied reply next (session-model (now (self .exit))) ≡ entered-answer (session-model (now (self .entry))) place next (enter-fault (session-model (now (self .entry)) .folder) line pin level)) (λ e. (e ≡ Memory) × (session-model (now (self .exit)) ≡ session-model (now (self .entry))) × (isOk (enter-fault (session-model (now (self .entry)) .folder) line pin level) ≡ true)) ⌝ }
     {
         match self.folder.enter(line, pin, level) {
             Ok(number) => Ok(Reply::Entered { number }),
@@ -43,7 +44,7 @@ impl Session {
 
     // Does what the job asks for.
     fn perform(&mut self, heap: Global, place: usize, line: JobLine) -> Result<Answer, Refusal>
-        ensures { λ r. ⌜ Cases r (λ a. answer-model a (session-model (now (self .exit))) ≡ job-answer (session-model (now (self .entry))) place (line .job) (line .next)) (λ e. (e ≡ Memory) × (session-model (now (self .exit)) ≡ session-model (now (self .entry)))) ⌝ }
+        ensures { λ r. ⌜ Cases r (λ a. answer-model a (session-model (now (self .exit))) ≡ job-answer (session-model (now (self .entry))) place (line .job) (line .next)) (λ e. (e ≡ Memory) × (session-model (now (self .exit)) ≡ session-model (now (self .entry))) × (job-stores (session-model (now (self .entry))) (line .job) ≡ true)) ⌝ }
     {
         let reply = match line.job {
             Job::Kind { kind } => {
