@@ -7,6 +7,8 @@ mod expect;
 #[cfg(test)]
 mod granted;
 #[cfg(test)]
+mod limits;
+#[cfg(test)]
 mod order;
 #[cfg(test)]
 mod refused;
