@@ -36,7 +36,20 @@ fn every_byte(rt: LibcRuntime) -> Result<(), Fail> {
         let (number, place) = alone(byte);
         expect_refused(heap, &[byte], number, place).note(byte)?;
         let (number, place) = inside_a_name(byte);
-        let text = [b'(', b'i', b'n', b'p', b'u', b't', b's', b' ', b'a', byte, b'b', b')'];
+        let text = [
+            b'(',
+            b'i',
+            b'n',
+            b'p',
+            b'u',
+            b't',
+            b's',
+            b' ',
+            b'a',
+            byte,
+            b'b',
+            b')',
+        ];
         expect_refused(heap, &text, number, place).note(byte)?;
     }
     Ok(())

@@ -1,33 +1,29 @@
 // One text and its answer.
 use circuit::Circuit;
-use circuit::Op;
 use reader::read;
 use refusals::Layer;
 use refusals::Refusal;
 use refusals::RefusalFromAlloc;
 use refusals::cause::RefusalDebug;
-use std::alloc::AllocError;
 use std::alloc::Global;
-use std::fmt;
-use std::fmt::Write;
 use std::test::*;
 
 // A text that is refused: the text, the number and the place.
 #[derive(Clone, Copy)]
 pub struct Refused(pub &'static str, pub u8, pub usize);
 
-// How large a circuit is.
+// How large a circuit is: its inputs, its lines and its outputs.
 #[derive(Clone, Copy)]
-pub struct Size {
-    pub inputs: usize,
-    pub lines: usize,
-    pub outputs: usize,
-}
+pub struct Size(pub usize, pub usize, pub usize);
 
 // A circuit with two inputs, a gate and two outputs: what is read next has something to replace.
 fn other_circuit(heap: Global) -> Result<Circuit, Refusal> {
     let mut circuit = Circuit::blank(heap)?;
-    let _ = read(heap, b"(inputs p q)\n(gate r (and p q))\n(outputs r q)\n", &mut circuit)?;
+    let _ = read(
+        heap,
+        b"(inputs p q)\n(gate r (and p q))\n(outputs r q)\n",
+        &mut circuit,
+    )?;
     Ok(circuit)
 }
 
@@ -86,7 +82,7 @@ pub fn expect_granted(heap: Global, text: &[u8], size: Size, place: usize) -> Re
     check_eq(rest.place, place)?;
     check(place <= text.len())?;
     check_eq(rest.bytes, &text[place..])?;
-    check_eq(circuit.input_count(), size.inputs)?;
-    check_eq(circuit.line_count(), size.lines)?;
-    check_eq(circuit.outputs().len(), size.outputs)
+    check_eq(circuit.input_count(), size.0)?;
+    check_eq(circuit.line_count(), size.1)?;
+    check_eq(circuit.outputs().len(), size.2)
 }

@@ -44,11 +44,7 @@ fn expect_count(heap: Global, operator: Takes, count: usize) -> Result<(), Fail>
     } else if count > most {
         expect_refused(heap, text.as_bytes(), 6, one_too_many)
     } else {
-        let size = Size {
-            inputs: 1,
-            lines: 2,
-            outputs: 1,
-        };
+        let size = Size(1, 2, 1);
         expect_granted(heap, text.as_bytes(), size, text.len())
     }
 }
@@ -58,7 +54,9 @@ fn operands_of_each_operator(rt: LibcRuntime) -> Result<(), Fail> {
     let heap = rt.alloc();
     for operator in &OPERATORS {
         for count in 0..11 {
-            expect_count(heap, *operator, count).note(operator.0).note(count)?;
+            expect_count(heap, *operator, count)
+                .note(operator.0)
+                .note(count)?;
         }
     }
     Ok(())
@@ -77,7 +75,13 @@ fn expect_endings(heap: Global, front: &str, endings: &[Ending]) -> Result<(), F
     Ok(())
 }
 
-fn expect_ending_granted(heap: Global, front: &str, ending: &str, size: Size, place: usize) -> Result<(), Fail> {
+fn expect_ending_granted(
+    heap: Global,
+    front: &str,
+    ending: &str,
+    size: Size,
+    place: usize,
+) -> Result<(), Fail> {
     let mut text = String::from_str(heap, front)?;
     text.push_str(ending)?;
     expect_granted(heap, text.as_bytes(), size, place).note(ending)
@@ -110,11 +114,7 @@ fn sixty_four_inputs(rt: LibcRuntime) -> Result<(), Fail> {
     push_names(&mut front)?;
     check_eq(front.len(), 253)?;
     expect_endings(heap, front.as_str(), &AFTER_INPUTS)?;
-    let size = Size {
-        inputs: 64,
-        lines: 64,
-        outputs: 1,
-    };
+    let size = Size(64, 64, 1);
     expect_ending_granted(heap, front.as_str(), ")\n(outputs n63)\n", size, 269)
 }
 
@@ -140,11 +140,7 @@ fn sixty_four_outputs(rt: LibcRuntime) -> Result<(), Fail> {
     push_names(&mut front)?;
     check_eq(front.len(), 527)?;
     expect_endings(heap, front.as_str(), &AFTER_OUTPUTS)?;
-    let size = Size {
-        inputs: 64,
-        lines: 65,
-        outputs: 64,
-    };
+    let size = Size(64, 65, 64);
     expect_ending_granted(heap, front.as_str(), ")\n(list)\n", size, 529)?;
     expect_ending_granted(heap, front.as_str(), ")", size, 528)
 }
@@ -181,15 +177,17 @@ const AFTER_512_LINES: [Ending; 8] = [
 #[test]
 fn five_hundred_and_twelve_lines(rt: LibcRuntime) -> Result<(), Fail> {
     let heap = rt.alloc();
-    let size = Size {
-        inputs: 1,
-        lines: 512,
-        outputs: 1,
-    };
+    let size = Size(1, 512, 1);
     let front = with_gates(heap, 510)?;
     check_eq(front.len(), 10101)?;
     expect_endings(heap, front.as_str(), &AFTER_511_LINES)?;
-    expect_ending_granted(heap, front.as_str(), "(gate y (not a))\n(outputs y)\n", size, 10130)?;
+    expect_ending_granted(
+        heap,
+        front.as_str(),
+        "(gate y (not a))\n(outputs y)\n",
+        size,
+        10130,
+    )?;
     let front = with_gates(heap, 511)?;
     check_eq(front.len(), 10121)?;
     expect_endings(heap, front.as_str(), &AFTER_512_LINES)?;
@@ -232,13 +230,11 @@ fn long_texts(rt: LibcRuntime) -> Result<(), Fail> {
         let Filled(front, filler, length, number, place) = *case;
         let mut text = String::from_str(heap, front)?;
         fill(&mut text, filler, length)?;
-        expect_refused(heap, text.as_bytes(), number, place).note(front).note(filler)?;
+        expect_refused(heap, text.as_bytes(), number, place)
+            .note(front)
+            .note(filler)?;
     }
-    let size = Size {
-        inputs: 1,
-        lines: 1,
-        outputs: 1,
-    };
+    let size = Size(1, 1, 1);
     let mut text = String::from_str(heap, "(inputs a)\n(outputs a)\n")?;
     fill(&mut text, "?", 65536)?;
     expect_granted(heap, text.as_bytes(), size, 23)
@@ -274,11 +270,7 @@ fn largest(heap: Global) -> Result<String, Fail> {
 #[test]
 fn largest_circuit(rt: LibcRuntime) -> Result<(), Fail> {
     let heap = rt.alloc();
-    let size = Size {
-        inputs: 64,
-        lines: 512,
-        outputs: 64,
-    };
+    let size = Size(64, 512, 64);
     let mut text = largest(heap)?;
     // an inputs line of 585 bytes, 448 gate lines of 94 and an outputs line of 585 without a line feed
     check_eq(text.len(), 43282)?;
@@ -295,9 +287,15 @@ fn largest_circuit(rt: LibcRuntime) -> Result<(), Fail> {
         check_eq(*output, k + 448)?;
     }
     let first = circuit.gate(64).ok_or("no first gate")?;
-    check_eq(first.operands.as_slice(), &[56, 57, 58, 59, 60, 61, 62, 63][..])?;
+    check_eq(
+        first.operands.as_slice(),
+        &[56, 57, 58, 59, 60, 61, 62, 63][..],
+    )?;
     let last = circuit.gate(511).ok_or("no last gate")?;
-    check_eq(last.operands.as_slice(), &[510, 510, 510, 510, 510, 510, 510, 510][..])?;
+    check_eq(
+        last.operands.as_slice(),
+        &[510, 510, 510, 510, 510, 510, 510, 510][..],
+    )?;
     text.push_str(" ")?;
     expect_refused(heap, text.as_bytes(), 9, 65536)
 }

@@ -7,41 +7,50 @@ use std::test::*;
 // A front of a text, and how an opening bracket, a closing bracket, the word `zz`, a line feed and the text's end are
 // refused behind it. 0 stands for a word that is fine there.
 #[derive(Clone, Copy)]
-struct Point(&'static str, u8, u8, u8, u8, u8);
+struct Point(&'static str, [u8; 5]);
 
 const POINTS: [Point; 27] = [
     // the inputs line
-    Point("", 0, 4, 4, 4, 10),
-    Point("(", 4, 4, 5, 4, 4),
-    Point("(inputs", 4, 4, 0, 4, 4),
-    Point("(inputs a", 4, 0, 0, 4, 4),
-    Point("(inputs a)", 4, 4, 4, 0, 10),
-    Point("(inputs a)\n", 0, 4, 4, 4, 10),
+    Point("", [0, 4, 4, 4, 10]),
+    Point("(", [4, 4, 5, 4, 4]),
+    Point("(inputs", [4, 4, 0, 4, 4]),
+    Point("(inputs a", [4, 0, 0, 4, 4]),
+    Point("(inputs a)", [4, 4, 4, 0, 10]),
+    Point("(inputs a)\n", [0, 4, 4, 4, 10]),
     // a gate line
-    Point("(inputs a)\n(", 4, 4, 5, 4, 4),
-    Point("(inputs a)\n(gate", 4, 4, 0, 4, 4),
-    Point("(inputs a)\n(gate y", 0, 4, 4, 4, 4),
-    Point("(inputs a)\n(gate y (", 4, 4, 5, 4, 4),
-    Point("(inputs a)\n(gate y (and", 0, 6, 7, 4, 4),
-    Point("(inputs a)\n(gate y (and a", 0, 6, 7, 4, 4),
-    Point("(inputs a)\n(gate y (and a a", 0, 0, 7, 4, 4),
-    Point("(inputs a)\n(gate y (and a a a a a a a a", 6, 0, 6, 4, 4),
-    Point("(inputs a)\n(gate y (not", 0, 6, 7, 4, 4),
-    Point("(inputs a)\n(gate y (not a", 6, 0, 6, 4, 4),
-    Point("(inputs a)\n(gate y (not a)", 4, 0, 4, 4, 4),
-    Point("(inputs a)\n(gate y (not a))", 4, 4, 4, 0, 10),
-    Point("(inputs a)\n(gate y (not a))\n", 0, 4, 4, 4, 10),
+    Point("(inputs a)\n(", [4, 4, 5, 4, 4]),
+    Point("(inputs a)\n(gate", [4, 4, 0, 4, 4]),
+    Point("(inputs a)\n(gate y", [0, 4, 4, 4, 4]),
+    Point("(inputs a)\n(gate y (", [4, 4, 5, 4, 4]),
+    Point("(inputs a)\n(gate y (and", [0, 6, 7, 4, 4]),
+    Point("(inputs a)\n(gate y (and a", [0, 6, 7, 4, 4]),
+    Point("(inputs a)\n(gate y (and a a", [0, 0, 7, 4, 4]),
+    Point("(inputs a)\n(gate y (and a a a a a a a a", [6, 0, 6, 4, 4]),
+    Point("(inputs a)\n(gate y (not", [0, 6, 7, 4, 4]),
+    Point("(inputs a)\n(gate y (not a", [6, 0, 6, 4, 4]),
+    Point("(inputs a)\n(gate y (not a)", [4, 0, 4, 4, 4]),
+    Point("(inputs a)\n(gate y (not a))", [4, 4, 4, 0, 10]),
+    Point("(inputs a)\n(gate y (not a))\n", [0, 4, 4, 4, 10]),
     // a gate inside another
-    Point("(inputs a)\n(gate y (and a (", 4, 4, 5, 4, 4),
-    Point("(inputs a)\n(gate y (and a (or a", 0, 6, 7, 4, 4),
-    Point("(inputs a)\n(gate y (and a (not a)", 0, 0, 7, 4, 4),
+    Point("(inputs a)\n(gate y (and a (", [4, 4, 5, 4, 4]),
+    Point("(inputs a)\n(gate y (and a (or a", [0, 6, 7, 4, 4]),
+    Point("(inputs a)\n(gate y (and a (not a)", [0, 0, 7, 4, 4]),
     // eight open brackets
-    Point("(inputs a)\n(gate y (not (not (not (not (not (not (", 3, 4, 5, 4, 4),
-    Point("(inputs a)\n(gate y (not (not (not (not (not (not (and a", 3, 6, 7, 4, 4),
-    Point("(inputs a)\n(gate y (not (not (not (not (not (not (not a", 3, 0, 6, 4, 4),
+    Point(
+        "(inputs a)\n(gate y (not (not (not (not (not (not (",
+        [3, 4, 5, 4, 4],
+    ),
+    Point(
+        "(inputs a)\n(gate y (not (not (not (not (not (not (and a",
+        [3, 6, 7, 4, 4],
+    ),
+    Point(
+        "(inputs a)\n(gate y (not (not (not (not (not (not (not a",
+        [3, 0, 6, 4, 4],
+    ),
     // the outputs line
-    Point("(inputs a)\n(outputs", 4, 4, 7, 4, 4),
-    Point("(inputs a)\n(outputs a", 4, 0, 7, 4, 4),
+    Point("(inputs a)\n(outputs", [4, 4, 7, 4, 4]),
+    Point("(inputs a)\n(outputs a", [4, 0, 7, 4, 4]),
 ];
 
 // A front, a space, a word, a space and a byte that no text may have.
@@ -69,7 +78,7 @@ fn expect_behind(heap: Global, front: &str, word: &str, number: u8) -> Result<()
 fn each_word_at_each_point(rt: LibcRuntime) -> Result<(), Fail> {
     let heap = rt.alloc();
     for point in &POINTS {
-        let Point(front, opening, closing, word, feed, end) = *point;
+        let Point(front, [opening, closing, word, feed, end]) = *point;
         expect_behind(heap, front, "(", opening)?;
         expect_behind(heap, front, ")", closing)?;
         expect_behind(heap, front, "zz", word)?;

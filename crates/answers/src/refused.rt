@@ -89,11 +89,19 @@ const WORDS: [Refused; 23] = [
     Refused("(inputs a)\n(gate y (2and a a))\n", 2, 20),
     Refused("(inputs a)\n(gate y (abcdefghi a a))\n", 2, 20),
     Refused("(inputs a)\n(gate y (not a 7))\n", 2, 26),
-    Refused("(inputs a)\n(gate y (and a a a a a a a a abcdefghi))\n", 2, 40),
+    Refused(
+        "(inputs a)\n(gate y (and a a a a a a a a abcdefghi))\n",
+        2,
+        40,
+    ),
     Refused("(inputs a)\n(gate y (and a 8))\n", 2, 26),
     Refused("(inputs a)\n(outputs abcdefghi)\n", 2, 20),
     Refused("(inputs abcdefgh abcdefghi)\n", 2, 17),
-    Refused("(inputs abcdefgh)\n(gate abcdefghi (not abcdefgh))\n", 2, 24),
+    Refused(
+        "(inputs abcdefgh)\n(gate abcdefghi (not abcdefgh))\n",
+        2,
+        24,
+    ),
     Refused("(inputs abcdefgh)\n(outputs abcdefgh abcdefghi)\n", 2, 36),
 ];
 
@@ -104,13 +112,41 @@ fn malformed_words(rt: LibcRuntime) -> Result<(), Fail> {
 
 // Eight brackets may be open together, the line's own among them.
 const BRACKETS: [Refused; 7] = [
-    Refused("(inputs a)\n(gate y (not (not (not (not (not (not (not (not a)))))))))\n(outputs y)\n", 3, 54),
-    Refused("(inputs a)\n(gate y (not (not (not (not (not (not ((not a)))))))))\n(outputs y)\n", 3, 50),
-    Refused("(inputs a)\n(gate y (not (not (not (not (not ((not a))))))))\n(outputs y)\n", 4, 45),
-    Refused("(inputs a)\n(gate y (not (not (not (not (not (not (not a (not a)))))))))\n(outputs y)\n", 3, 56),
-    Refused("(inputs a)\n(gate y (not (not (not (not (not (not a (not a))))))))\n(outputs y)\n", 6, 51),
-    Refused("(inputs a)\n(gate y (and a (and a (and a (and a (and a (and a (and a (\n", 3, 68),
-    Refused("(inputs a)\n(gate y (or a (or a (or a (or a (or a (or a (or a a a a a a a a (9?\n", 3, 75),
+    Refused(
+        "(inputs a)\n(gate y (not (not (not (not (not (not (not (not a)))))))))\n(outputs y)\n",
+        3,
+        54,
+    ),
+    Refused(
+        "(inputs a)\n(gate y (not (not (not (not (not (not ((not a)))))))))\n(outputs y)\n",
+        3,
+        50,
+    ),
+    Refused(
+        "(inputs a)\n(gate y (not (not (not (not (not ((not a))))))))\n(outputs y)\n",
+        4,
+        45,
+    ),
+    Refused(
+        "(inputs a)\n(gate y (not (not (not (not (not (not (not a (not a)))))))))\n(outputs y)\n",
+        3,
+        56,
+    ),
+    Refused(
+        "(inputs a)\n(gate y (not (not (not (not (not (not a (not a))))))))\n(outputs y)\n",
+        6,
+        51,
+    ),
+    Refused(
+        "(inputs a)\n(gate y (and a (and a (and a (and a (and a (and a (and a (\n",
+        3,
+        68,
+    ),
+    Refused(
+        "(inputs a)\n(gate y (or a (or a (or a (or a (or a (or a (or a a a a a a a a (9?\n",
+        3,
+        75,
+    ),
 ];
 
 #[test]
@@ -193,7 +229,11 @@ const COUNTS: [Refused; 17] = [
     Refused("(inputs a)\n(gate y (or a a a a a a a a b))\n", 6, 39),
     Refused("(inputs a)\n(gate y (not a (?", 6, 26),
     Refused("(inputs a)\n(gate y (buf a (nxor b 9)))\n", 6, 26),
-    Refused("(inputs a)\n(gate y (nor a a a a a a a a (not a)))\n", 6, 40),
+    Refused(
+        "(inputs a)\n(gate y (nor a a a a a a a a (not a)))\n",
+        6,
+        40,
+    ),
     Refused("(inputs a)\n(gate y (and a (or a)))\n", 6, 31),
     Refused("(inputs a)\n(gate y (and (not a)))\n", 6, 31),
     Refused("(inputs a)\n(gate y (and a\n))\n", 4, 25),
@@ -218,7 +258,11 @@ const NAMES: [Refused; 16] = [
     Refused("(inputs a)\n(gate y (and and a))\n", 7, 24),
     Refused("(inputs a)\n(gate y (and a y))\n", 7, 26),
     Refused("(inputs a)\n(gate y (and a (not y)))\n", 7, 31),
-    Refused("(inputs a)\n(gate y (not z))\n(gate z (not a))\n(outputs y)\n", 7, 24),
+    Refused(
+        "(inputs a)\n(gate y (not z))\n(gate z (not a))\n(outputs y)\n",
+        7,
+        24,
+    ),
     Refused("(inputs a)\n(outputs b)\n", 7, 20),
     Refused("(inputs a)\n(outputs none)\n", 7, 20),
     Refused("(inputs ab)\n(outputs a)\n", 7, 21),
