@@ -42,7 +42,7 @@ fn lines_and_their_ends(rt: LibcRuntime) -> Result<(), Fail> {
 }
 
 // Bytes that no text may have, and the words before them.
-const BYTES: [Refused; 20] = [
+const BYTES: [Refused; 19] = [
     Refused("?", 1, 0),
     Refused("\0(inputs a)\n", 1, 0),
     Refused("(inputs A)\n(outputs a)\n", 1, 8),
@@ -58,7 +58,6 @@ const BYTES: [Refused; 20] = [
     Refused("(inputs a)\n(outputs a)?\n", 1, 22),
     Refused("(inputs a)\n(outputs a) ; the end\n", 1, 23),
     Refused("\u{e9}", 1, 0),
-    Refused("(abc?", 5, 1),
     Refused("abc?", 4, 0),
     Refused("abcdefghi?", 2, 0),
     Refused("(inputs a a?)\n", 8, 10),
@@ -216,8 +215,7 @@ fn what_is_due(rt: LibcRuntime) -> Result<(), Fail> {
 }
 
 // Operands too many or too few.
-const COUNTS: [Refused; 17] = [
-    Refused("(inputs a)\n(gate y (and a))", 6, 25),
+const COUNTS: [Refused; 16] = [
     Refused("(inputs a)\n(gate y (and))\n", 6, 23),
     Refused("(inputs a)\n(gate y (not ))\n", 6, 24),
     Refused("(inputs a)\n(gate y (buf))\n", 6, 23),
@@ -246,8 +244,7 @@ fn operand_counts(rt: LibcRuntime) -> Result<(), Fail> {
 }
 
 // Names: not known yet, or taken already.
-const NAMES: [Refused; 16] = [
-    Refused("(inputs a a)", 8, 10),
+const NAMES: [Refused; 15] = [
     Refused("(inputs a b a)\n", 8, 12),
     Refused("(inputs a)\n(gate a (not a))\n", 8, 17),
     Refused("(inputs a)\n(gate y (not a))\n(gate y (not a))\n", 8, 34),
@@ -272,4 +269,41 @@ const NAMES: [Refused; 16] = [
 #[test]
 fn unknown_and_taken_names(rt: LibcRuntime) -> Result<(), Fail> {
     expect_all_refused(rt.alloc(), &NAMES)
+}
+
+// The examples of docs/CIRCUIT_TEXT.md and docs/REFUSALS.md.
+const EXAMPLES: [Refused; 24] = [
+    Refused("(inputs a a)", 8, 10),
+    Refused("(inputs a)", 10, 10),
+    Refused("(inputs a", 4, 9),
+    Refused("(inputs a)\n\n(outputs a)", 4, 11),
+    Refused("(inputs a)\n  ", 10, 13),
+    Refused("(outputs a)", 4, 1),
+    Refused("(inputs a)\n(list)", 5, 12),
+    Refused("(inputs a)\n(gate y (gate a a))", 5, 20),
+    Refused("(inputs a)\n(gate y a)", 4, 19),
+    Refused("(inputs a)\n(gate y (and a))", 6, 25),
+    Refused("(inputs a)\n(gate y (not a b))", 6, 26),
+    Refused("(inputs a)\n(gate y (not y))", 7, 24),
+    Refused("(inputs a)\n(gate y (not 7up))", 2, 24),
+    Refused("(abc?", 5, 1),
+    Refused("(inputs ab?c)", 1, 10),
+    Refused("(inputs a)\n(outputs a) b", 4, 23),
+    Refused("(inputs abcdefghi)", 2, 8),
+    Refused(
+        "(inputs a)\n(gate y (not (not (not (not (not (not (not (",
+        3,
+        54,
+    ),
+    Refused("(inputs)", 4, 7),
+    Refused("(inputs a)\n(gate y (nxor a a))", 5, 20),
+    Refused("(inputs a)\n(outputs b)", 7, 20),
+    Refused("(inputs a)\n(gate y 4)", 2, 19),
+    Refused("(inputs a)\n(gate y (2and a a))", 2, 20),
+    Refused("(inputs a)\n(gate y (not a 7))", 2, 26),
+];
+
+#[test]
+fn examples_of_the_documents(rt: LibcRuntime) -> Result<(), Fail> {
+    expect_all_refused(rt.alloc(), &EXAMPLES)
 }
