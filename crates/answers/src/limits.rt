@@ -240,62 +240,56 @@ fn long_texts(rt: LibcRuntime) -> Result<(), Fail> {
     expect_granted(heap, text.as_bytes(), size, 23)
 }
 
-// The largest circuit in the longest text: 64 inputs, 448 gates with a name of 8 bytes and 8 operands each, 64 outputs.
+// Names of 8 bytes for the lines of these numbers, each behind a space: n0000000, n0000001 and so on.
+fn push_lines(text: &mut String, from: usize, to: usize) -> Result<(), Fail> {
+    for line in from..to {
+        write!(text, " n{line:07}")?;
+    }
+    Ok(())
+}
+
+// The largest circuit: 64 inputs, 448 gates that read the eight lines before them, and the last 64 lines as outputs.
 fn largest(heap: Global) -> Result<String, Fail> {
     let mut text = String::from_str(heap, "(inputs")?;
-    for k in 0..64 {
-        write!(text, " i{k:07}")?;
-    }
-    text.push_str(")\n(gate g0000000 (and")?;
-    for k in 56..64 {
-        write!(text, " i{k:07}")?;
-    }
-    text.push_str("))\n")?;
-    for k in 0..447usize {
-        let next = k + 1;
-        write!(text, "(gate g{next:07} (and")?;
-        for _ in 0..8 {
-            write!(text, " g{k:07}")?;
-        }
+    push_lines(&mut text, 0, 64)?;
+    text.push_str(")\n")?;
+    for first in 56..504usize {
+        text.push_str("(gate")?;
+        push_lines(&mut text, first + 8, first + 9)?;
+        text.push_str(" (xor")?;
+        push_lines(&mut text, first, first + 8)?;
         text.push_str("))\n")?;
     }
     text.push_str("(outputs")?;
-    for k in 384..448 {
-        write!(text, " g{k:07}")?;
-    }
+    push_lines(&mut text, 448, 512)?;
     text.push_str(")")?;
     Ok(text)
 }
 
-#[test]
-fn largest_circuit(rt: LibcRuntime) -> Result<(), Fail> {
-    let heap = rt.alloc();
-    let size = Size(64, 512, 64);
-    let mut text = largest(heap)?;
-    // an inputs line of 585 bytes, 448 gate lines of 94 and an outputs line of 585 without a line feed
-    check_eq(text.len(), 43282)?;
-    expect_granted(heap, text.as_bytes(), size, 43282)?;
-    fill(&mut text, " ", 65536)?;
-    expect_granted(heap, text.as_bytes(), size, 65536)?;
-    let mut circuit = Circuit::blank(heap)?;
-    let _ = read(heap, text.as_bytes(), &mut circuit)?;
-    check_eq(circuit.line_named(b"i0000063"), Some(63))?;
-    check_eq(circuit.line_named(b"g0000000"), Some(64))?;
-    check_eq(circuit.line_named(b"g0000447"), Some(511))?;
+fn expect_largest(circuit: &Circuit) -> Result<(), Fail> {
+    check_eq(circuit.line_named(b"n0000511"), Some(511))?;
+    let gate = circuit.gate(511).ok_or("no gate")?;
+    let operands = [503, 504, 505, 506, 507, 508, 509, 510];
+    check_eq(gate.operands.as_slice(), &operands[..])?;
     for (k, output) in circuit.outputs().iter().enumerate() {
         check(k < 64)?;
         check_eq(*output, k + 448)?;
     }
-    let first = circuit.gate(64).ok_or("no first gate")?;
-    check_eq(
-        first.operands.as_slice(),
-        &[56, 57, 58, 59, 60, 61, 62, 63][..],
-    )?;
-    let last = circuit.gate(511).ok_or("no last gate")?;
-    check_eq(
-        last.operands.as_slice(),
-        &[510, 510, 510, 510, 510, 510, 510, 510][..],
-    )?;
+    Ok(())
+}
+
+// The largest circuit in the longest text, and one byte more.
+#[test]
+fn largest_circuit(rt: LibcRuntime) -> Result<(), Fail> {
+    let heap = rt.alloc();
+    let mut text = largest(heap)?;
+    // an inputs line of 585 bytes, 448 gate lines of 94 and an outputs line of 585 without a line feed
+    expect_granted(heap, text.as_bytes(), Size(64, 512, 64), 43282)?;
+    fill(&mut text, " ", 65536)?;
+    expect_granted(heap, text.as_bytes(), Size(64, 512, 64), 65536)?;
+    let mut circuit = Circuit::blank(heap)?;
+    let _ = read(heap, text.as_bytes(), &mut circuit)?;
+    expect_largest(&circuit)?;
     text.push_str(" ")?;
     expect_refused(heap, text.as_bytes(), 9, 65536)
 }
