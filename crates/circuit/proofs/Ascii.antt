@@ -18,8 +18,8 @@ use Rattle.words.specs.Spelling.{letter-first, name-shape}
 small : (b : ℕ) → in-word b ≡ true → b < 128
 small b h =
     elim (or-cases (letter b) (digit b) h) [
-      inl y ↦ omega (arith, leb-true b 122 (and-parts (leb 97 b) (leb b 122) y .1))
-    | inr y ↦ omega (arith, leb-true b 57 (and-parts (leb 48 b) (leb b 57) y .1))
+      | inl y ↦ omega (arith, leb-true b 122 (and-parts (leb 97 b) (leb b 122) y .1))
+      | inr y ↦ omega (arith, leb-true b 57 (and-parts (leb 48 b) (leb b 57) y .1))
     ]
 
 ascii : (bs : List ℕ) → every in-word bs ≡ true → Ascii bs

@@ -11,7 +11,12 @@ use std::io::Read;
 
 // Writes the replies to the job lines of the text from a place on. A line takes at least one byte, so there are at most as
 // many as the text has.
-fn answer_jobs(rt: &LibcRuntime, session: &mut Session, text: &[u8], start: usize) -> Result<(), AnyError> {
+fn answer_jobs(
+    rt: &LibcRuntime,
+    session: &mut Session,
+    text: &[u8],
+    start: usize,
+) -> Result<(), AnyError> {
     let mut place = start;
     for _ in 0..text.len() {
         match session.answer(rt.alloc(), text, place) {

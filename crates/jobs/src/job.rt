@@ -14,9 +14,15 @@ pub enum Kind {
 #[derive(Clone, Copy)]
 pub enum Job {
     // choose the value kind
-    Kind { kind: Kind },
+    Kind {
+        kind: Kind,
+    },
     // enter a stuck-at fault
-    Fault { line: usize, pin: usize, level: usize },
+    Fault {
+        line: usize,
+        pin: usize,
+        level: usize,
+    },
     // list the entries
     List,
 }

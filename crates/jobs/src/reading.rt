@@ -48,7 +48,12 @@ fn job(lexer: &mut Lexer<'_>, circuit: &Circuit, chosen: bool) -> Result<Job, Re
 
 // Reads the job line that begins at that place of the text: the job, and where the next line begins; nothing where only
 // spaces are left. `chosen` says whether a kind was chosen.
-pub fn read_job(text: &[u8], place: usize, circuit: &Circuit, chosen: bool) -> Result<Option<JobLine>, Refusal>
+pub fn read_job(
+    text: &[u8],
+    place: usize,
+    circuit: &Circuit,
+    chosen: bool,
+) -> Result<Option<JobLine>, Refusal>
     ensures { λ r. ⌜ r ≡ job-answer (run (names (circuit-model (now (circuit .entry)))) chosen line-begin (lexemes-from (now (text .entry)) (min place (length (now (text .entry)))))) ⌝ }
 {
     let mut lexer = Lexer::new(text, place);

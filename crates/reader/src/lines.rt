@@ -28,10 +28,10 @@ use refusals::RefusalFromForm;
 use refusals::RefusalFromRefused;
 use words::PlacedWord;
 use words::Token;
-use words::expect_word;
-use words::expect_opening;
-use words::expect_feed;
 use words::expect_closing;
+use words::expect_feed;
+use words::expect_opening;
+use words::expect_word;
 use words::same_bytes;
 
 pub const MOST_NAMES: usize = 64;

@@ -28,5 +28,5 @@ letter-small d l i = go (eqb (d / 2 ^ i % 2) 0) (eqb (l / 2 ^ i % 2) 0)
 pub levels-more : (d l n : ℕ) → levels d l 0 n ++ encode (level-letter d l n) ≡ levels d l 0 (n + 1)
 levels-more d l n =
     ap (λ (bs : List ℕ). levels d l 0 n ++ bs) (encode-ascii (level-letter d l n) (letter-small d l n))
-      ∙ ap (λ (k : ℕ). levels d l 0 n ++ (level-letter d l k ∷ [])) (sym (zero-add n))
-      ∙ sym (levels-push d l 0 n) ∙ ap (levels d l 0) (sym (add-one n))
+    ∙ ap (λ (k : ℕ). levels d l 0 n ++ (level-letter d l k ∷ [])) (sym (zero-add n))
+    ∙ sym (levels-push d l 0 n) ∙ ap (levels d l 0) (sym (add-one n))

@@ -15,15 +15,15 @@ module _ (es : List code.Entry) (i : ℕ) (e : code.Entry) (inside : i < length 
   next-entry : drop i (map entry-model es) ≡ entry-model e ∷ drop (i + 1) (map entry-model es)
   next-entry =
       drop-more (map entry-model es) i (entry-model e) (simp length-map inside)
-        ∙ ap (λ (x : Entry). x ∷ drop (i + 1) (map entry-model es)) (getD-map entry-model es i e (entry-model e) inside ∙ ap entry-model (sym is))
+      ∙ ap (λ (x : Entry). x ∷ drop (i + 1) (map entry-model es)) (getD-map entry-model es i e (entry-model e) inside ∙ ap entry-model (sym is))
 
   -- the line of the entry goes over to the text
   pub rows-more : (c : Circuit) (before after line : List ℕ) → after ≡ before ++ line → line ≡ entry-line c i (entry-model e)
-    → before ++ entry-lines c i (drop i (map entry-model es)) ≡ after ++ entry-lines c (i + 1) (drop (i + 1) (map entry-model es))
+      → before ++ entry-lines c i (drop i (map entry-model es)) ≡ after ++ entry-lines c (i + 1) (drop (i + 1) (map entry-model es))
   rows-more c before after line a l =
       ap (λ (rest : List Entry). before ++ entry-lines c i rest) next-entry
-        ∙ sym (append-assoc before (entry-line c i (entry-model e)) (entry-lines c (i + 1) (drop (i + 1) (map entry-model es))))
-        ∙ ap (λ (text : List ℕ). text ++ entry-lines c (i + 1) (drop (i + 1) (map entry-model es))) (ap (λ (x : List ℕ). before ++ x) (sym l) ∙ sym a)
+      ∙ sym (append-assoc before (entry-line c i (entry-model e)) (entry-lines c (i + 1) (drop (i + 1) (map entry-model es))))
+      ∙ ap (λ (text : List ℕ). text ++ entry-lines c (i + 1) (drop (i + 1) (map entry-model es))) (ap (λ (x : List ℕ). before ++ x) (sym l) ∙ sym a)
 
   pub tested-more : (n : ℕ) → n + tested-count (drop i (map entry-model es)) ≡ n + cond (is-tested (entry-model e .state)) 1 0 + tested-count (drop (i + 1) (map entry-model es))
   tested-more n = ap (λ (rest : List Entry). n + tested-count rest) next-entry ∙ omega arith

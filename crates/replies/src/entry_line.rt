@@ -60,7 +60,11 @@ pub impl fmt::Display for LevelText as LevelTextDisplay {
     ghost shown = { λ t. Some (level-text (t .level)) };
 
     fn fmt<W: fmt::Write>(&self, f: &mut fmt::Formatter<W>) -> fmt::Result {
-        if self.level { f.write_str("1") } else { f.write_str("0") }
+        if self.level {
+            f.write_str("1")
+        } else {
+            f.write_str("0")
+        }
     }
 }
 
@@ -86,6 +90,9 @@ pub impl fmt::Display for EntryLine<'_> as EntryLineDisplay {
         let state = self.state;
         let cube = self.cube;
         let count = self.count;
-        write!(f, "(entry {number} {name} {pin} {level} {state} {cube} {count})\n")
+        write!(
+            f,
+            "(entry {number} {name} {pin} {level} {state} {cube} {count})\n"
+        )
     }
 }

@@ -30,11 +30,20 @@ fn line_of<'a>(circuit: &'a Circuit, number: usize, entry: Entry) -> EntryLine<'
     let fault = entry.fault();
     EntryLine {
         number,
-        name: NameText { name: circuit.line_name(fault.line()) },
+        name: NameText {
+            name: circuit.line_name(fault.line()),
+        },
         pin: fault.pin(),
-        level: LevelText { level: fault.level() },
-        state: StateText { state: entry.state() },
-        cube: CubeText { cube: entry.cube(), inputs: circuit.input_count() as u32 },
+        level: LevelText {
+            level: fault.level(),
+        },
+        state: StateText {
+            state: entry.state(),
+        },
+        cube: CubeText {
+            cube: entry.cube(),
+            inputs: circuit.input_count() as u32,
+        },
         count: entry.count(),
     }
 }

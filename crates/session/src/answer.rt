@@ -32,12 +32,24 @@ impl Session {
     }
 
     // Enters the fault, or says why not; a refusal by the folder has the place of the job's line.
-    fn enter(&mut self, place: usize, line: usize, pin: usize, level: usize) -> Result<Reply, Refusal>
+    fn enter(
+        &mut self,
+        place: usize,
+        line: usize,
+        pin: usize,
+        level: usize,
+    ) -> Result<Reply, Refusal>
         ensures { λ r. ⌜ Cases r (λ reply. (next : ℕ) → replied reply next (session-model (now (self .exit))) ≡ entered-answer (session-model (now (self .entry))) place next (enter-fault (session-model (now (self .entry)) .folder) line pin level)) (λ e. (e ≡ Memory) × (session-model (now (self .exit)) ≡ session-model (now (self .entry))) × (isOk (enter-fault (session-model (now (self .entry)) .folder) line pin level) ≡ true)) ⌝ }
     {
         match self.folder.enter(line, pin, level) {
             Ok(number) => Ok(Reply::Entered { number }),
-            Err(Refusal::Folder(refusal)) => Ok(Reply::Refused { cause: Cause { layer: Layer::Folder, number: refusal.number(), place } }),
+            Err(Refusal::Folder(refusal)) => Ok(Reply::Refused {
+                cause: Cause {
+                    layer: Layer::Folder,
+                    number: refusal.number(),
+                    place,
+                },
+            }),
             Err(other) => Err(other),
         }
     }
@@ -52,13 +64,23 @@ impl Session {
                 Reply::Kind { kind }
             }
             Job::Fault { line, pin, level } => self.enter(place, line, pin, level)?,
-            Job::List => Reply::Listing { text: listing(heap, &self.folder)? },
+            Job::List => Reply::Listing {
+                text: listing(heap, &self.folder)?,
+            },
         };
-        Ok(Answer { reply, next: line.next })
+        Ok(Answer {
+            reply,
+            next: line.next,
+        })
     }
 
     // Answers the job line that begins at that place of the text; nothing where only spaces are left.
-    pub fn answer(&mut self, heap: Global, text: &[u8], place: usize) -> Result<Option<Answer>, Refusal>
+    pub fn answer(
+        &mut self,
+        heap: Global,
+        text: &[u8],
+        place: usize,
+    ) -> Result<Option<Answer>, Refusal>
         ensures { λ r. ⌜ Answers (session-model (now (self .entry))) (now (text .entry)) place r (session-model (now (self .exit))) ⌝ }
     {
         match read_job(text, place, self.folder.circuit(), self.kind.is_some()) {
@@ -72,7 +94,10 @@ impl Session {
                     return Err(refusal);
                 };
                 let next = line_after(text, cause.place);
-                Ok(Some(Answer { reply: Reply::Refused { cause }, next }))
+                Ok(Some(Answer {
+                    reply: Reply::Refused { cause },
+                    next,
+                }))
             }
         }
     }

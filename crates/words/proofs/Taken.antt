@@ -9,7 +9,6 @@ use denote.Ref.{RefT}
 use Rattle.words.specs.Left.{onward}
 use Rattle.words.specs.Lexemes.{Lexeme, Opening, Closing, Word, LineEnd, TextEnd, Forbidden, lexemes-from, following, end-of, is-end}
 
-
 module _ (text : List ℕ) (place next : ℕ) where
   onward-is : (t : Lexeme) → next ≡ end-of t → following text t ≡ onward t (lexemes-from text next)
   onward-is (TextEnd n) e = refl

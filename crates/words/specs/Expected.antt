@@ -53,4 +53,3 @@ is-feed (Forbidden n) = false
 -- the lexeme is not the one that is due, and this is its refusal
 abbrev pub Unmet : (Lexeme → Bool) → Lexeme → Refusal → Type 0
 Unmet met t e = (met t ≡ false) × (e ≡ unexpected t)
-

@@ -25,10 +25,11 @@ loop-number-again c =
     let i = c .loop-number .number in
     let e = c .index-entries-number .result in
     let d = circuit-model (c .circuit-circuit .result .now) in
-    let counted : c .tested-in-tested .result ≡ cond (is-tested (entry-model e .state)) 1 0 = c .tested-in-tested .ensures ∙ ap (λ (s : State). cond (is-tested (state-model s)) 1 0) (c .state .ensures) in
-    (sym (rows-more es i e (c .loop-number-test .taken) (c .index-entries-number .is) d (string-bytes (c .loop-number .text)) (string-bytes (c .append-entry .last .text)) _ (c .in-Continue-append-entry .ensures tt) (c .line-of .ensures)) ∙ c .loop-number .inv .0,
+    let counted : c .tested-in-tested .result ≡ cond (is-tested (entry-model e .state)) 1 0 = c .tested-in-tested .ensures ∙ ap (λ (s : State). cond (is-tested (state-model s)) 1 0) (c .state .ensures) in (
+      sym (rows-more es i e (c .loop-number-test .taken) (c .index-entries-number .is) d (string-bytes (c .loop-number .text)) (string-bytes (c .append-entry .last .text)) _ (c .in-Continue-append-entry .ensures tt) (c .line-of .ensures)) ∙ c .loop-number .inv .0,
       omega (arith, counted, tested-more es i e (c .loop-number-test .taken) (c .index-entries-number .is) (c .loop-number .tested), c .loop-number .inv .1),
-      small (is-tested (entry-model e .state)) (c .tested-in-tested .result) (c .loop-number .tested) i counted (c .loop-number .inv .2))
+      small (is-tested (entry-model e .state)) (c .tested-in-tested .result) (c .loop-number .tested) i counted (c .loop-number .inv .2),
+    )
 
 pub returns : need.returns
 returns c =
@@ -38,5 +39,5 @@ returns c =
     let tested : c .loop-number .tested ≡ tested-count (map entry-model es) = sym (tested-end es (c .loop-number .number) (c .loop-number .tested) (c .loop-number-test .left)) ∙ c .loop-number .inv .1 in
     let total : length es ≡ length (map entry-model es) = sym (length-map es entry-model) in
     listed-whole d (map entry-model es) (string-bytes (c .loop-number .text)) (string-bytes (c .append-coverage .last .text)) (c .loop-number .tested) (length es) text tested total (c .in-Continue-append-coverage .ensures tt)
-      ∙ ap (λ (x : Circuit). listing (circuit-model x) (map entry-model es)) (c .circuit-circuit .ensures)
-      ∙ ap (λ (xs : List Entry). listing (circuit-model (c .args .folder .now .circuit)) (map entry-model xs)) (c .entries-entries .ensures .value)
+    ∙ ap (λ (x : Circuit). listing (circuit-model x) (map entry-model es)) (c .circuit-circuit .ensures)
+    ∙ ap (λ (xs : List Entry). listing (circuit-model (c .args .folder .now .circuit)) (map entry-model xs)) (c .entries-entries .ensures .value)

@@ -11,5 +11,5 @@ use Rattle.replies.proofs.listing.listing.Given as given
 abbrev pub Inv-loop-number : given.InvT-loop-number
 Inv-loop-number l =
     (string-bytes (l .text) ++ entry-lines (circuit-model (l .circuit)) (l .number) (drop (l .number) (map entry-model (l .entries))) ≡ entry-lines (circuit-model (l .circuit)) 0 (map entry-model (l .entries)))
-      × (l .tested + tested-count (drop (l .number) (map entry-model (l .entries))) ≡ tested-count (map entry-model (l .entries)))
-      × (l .tested ≤ l .number)
+    × (l .tested + tested-count (drop (l .number) (map entry-model (l .entries))) ≡ tested-count (map entry-model (l .entries)))
+    × (l .tested ≤ l .number)
