@@ -3,6 +3,8 @@
 #[cfg(test)]
 mod bytes;
 #[cfg(test)]
+mod entries;
+#[cfg(test)]
 mod expect;
 #[cfg(test)]
 mod granted;

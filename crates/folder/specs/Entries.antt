@@ -13,7 +13,7 @@ use Rattle.folder.specs.declared.state.State as code-state
 use Rattle.folder.specs.declared.state.State.the-variants as state
 use Rattle.folder.specs.declared.entry.Entry as code-entry
 
--- What is known of a fault: nothing; that the search ran out of tries, with the best cube that it met; a test that
+-- What is known of a fault: nothing; that the tries ran out, with the best cube that was met; a test that
 -- drives as few inputs as any; that no vector detects it; or the number of the entry whose cube detects it.
 pub data State : Type 0 where
   Open : State

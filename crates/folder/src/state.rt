@@ -5,7 +5,7 @@ use faults::Cube;
 pub enum State {
     // nothing yet
     Open,
-    // the search ran out of tries; the cube is the best that it met
+    // the tries ran out; the cube is the best that was met
     Spent { cube: Option<Cube>, tries: u32 },
     // a test that drives as few inputs as any
     Fewest { cube: Cube, tries: u32 },

@@ -15,7 +15,7 @@ use std::alloc::AllocError;
 use std::alloc::Refused;
 use std::fmt;
 
-// `Memory` is want of memory: it has no number, and nothing was changed.
+// `Memory` is want of memory: it has no number.
 #[derive(Clone, Copy, Debug)]
 pub enum Refusal {
     Text(TextRefusal),

@@ -1,4 +1,4 @@
-// A folder, and the value kind that was chosen for its searches.
+// A folder, and the value kind that was chosen for it.
 use folder::Folder;
 use jobs::Kind;
 
