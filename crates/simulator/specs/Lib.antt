@@ -1,0 +1,4 @@
+pub mod Lines
+pub mod Detection
+pub mod Laws
+pub mod Simulation
