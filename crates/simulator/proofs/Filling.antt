@@ -1,5 +1,5 @@
 -- The loops that fill the row: the inputs, then the gates.
-use mathlib.Core.Path.{_≡_, refl, sym, ap, _∙_}
+use mathlib.Core.Path.{_≡_, refl, sym, ap, subst, _∙_}
 use mathlib.Core.List.{List, [], _∷_, _++_, map}
 use Prim.Native.Nat.{ℕ, _+_, _<_, _≤_}
 use native.Mathlib.Nat.{add-zero, add-assoc}
@@ -15,6 +15,7 @@ use Rattle.circuit.specs.Model.{Gate}
 use Rattle.circuit.specs.Tables.{gate-model}
 use Rattle.faults.specs.declared.fault.Fault.{Fault}
 use Rattle.simulator.specs.Lines.{at-pin, inputs-row, gate-value, gates-after}
+use Rattle.simulator.specs.Steps.{Placed}
 use Rattle.simulator.specs.Simulation.{Worked}
 
 -- one place more is written
@@ -54,9 +55,9 @@ module _ {V : Type 0} (meaning : V → Pairs) (A : Values Pairs) (f : Option Fau
     pub settle-first : Settled 0 before
     settle-first = record { front = ap (λ (n : ℕ). gates-after A f (map meaning (take n before)) (map gate-model gates)) (add-zero inputs); rest = refl; long = refl }
 
-    pub settle-more : (i : ℕ) (row : List V) (g : code.Gate) (x : V) → i < length gates → g ≡ getD gates i g → inputs + i < length row
+    settle-set : (i : ℕ) (row : List V) (g : code.Gate) (x : V) → i < length gates → g ≡ getD gates i g → inputs + i < length row
         → meaning x ≡ gate-value A f (map meaning (take (inputs + i) row)) (gate-model g) → Settled i row → Settled (i + 1) (set row (inputs + i) x)
-    settle-more i row g x h is room e s =
+    settle-set i row g x h is room e s =
         let models = map gate-model gates in
         let inside : i < length models = simp length-map h in
         let line = inputs + i in
@@ -74,6 +75,11 @@ module _ {V : Type 0} (meaning : V → Pairs) (A : Values Pairs) (f : Option Fau
               ∙ ap (λ (n : ℕ). drop n before) (sym next);
           long = length-set row line x ∙ s .long;
         }
+
+    pub settle-more : (i : ℕ) (row after : List V) (g : code.Gate) → i < length gates → g ≡ getD gates i g → inputs + i < length row
+        → Placed meaning (inputs + i) (gate-value A f (map meaning (take (inputs + i) row)) (gate-model g)) row after → Settled i row → Settled (i + 1) after
+    settle-more i row after g h is room placed s =
+        subst (λ (xs : List V). Settled (i + 1) xs) (sym (placed .put)) (settle-set i row g (placed .value) h is room (placed .means) s)
 
     pub settle-end : (i : ℕ) (row : List V) → i ≡ length gates → Settled i row → Worked meaning all-lines (inputs + length gates) before row
     settle-end i row h s = record {

@@ -4,11 +4,12 @@ ghost use mathlib.Core.Bool.{true};
 ghost use mathlib.Core.List.{map};
 ghost use lib.Dec.{ltb};
 ghost use lib.ListN.{length};
-ghost use Prim.Native.Nat.{ℕ, _≤_};
+ghost use Prim.Native.Nat.{ℕ, _<_, _≤_};
 ghost use Rattle.words.specs.Lists.{every};
 ghost use Rattle.circuit.specs.Lawful.{gate-fits};
 ghost use Rattle.circuit.specs.Tables.{gate-model};
-ghost use Rattle.simulator.specs.Lines.{at-pin, join, ended, joined, operands-from, gate-value};
+ghost use Rattle.simulator.specs.Lines.{at-pin, join, ended, gate-value};
+ghost use Rattle.simulator.specs.Steps.{operand-value, all-joined, Joining};
 use circuit::Gate;
 use circuit::Op;
 use faults::Fault;
@@ -46,16 +47,38 @@ fn end<V: ValueKind>(op: Op, value: V) -> V
     }
 }
 
-// The operands of the gate that comes after the row, joined from the left.
+// What the operand at a place carries, of the gate that comes next after the row.
+fn operand_value<V: ValueKind>(
+    operands: &[usize],
+    index: usize,
+    fault: Option<Fault>,
+    row: &[V],
+) -> V
+    requires within { ⌜ index < length (now operands) ⌝ }
+    requires below { ⌜ every (λ (o : ℕ). ltb o (length (now row))) (now operands) ≡ true ⌝ }
+    ensures { λ r. ⌜ V·ValueKind .meaning r ≡ operand-value (V·ValueKind .kind .values) fault (map (V·ValueKind .meaning) (now (row .entry))) (now (operands .entry)) index ⌝ }
+{
+    at_pin(fault, row.len(), index + 1, row[operands[index]])
+}
+
+// What the first operand carries, with which the joining begins.
+fn first_operand<V: ValueKind>(operands: &[usize], fault: Option<Fault>, row: &[V]) -> V
+    requires some { ⌜ 1 ≤ length (now operands) ⌝ }
+    requires below { ⌜ every (λ (o : ℕ). ltb o (length (now row))) (now operands) ≡ true ⌝ }
+    ensures { λ r. ⌜ ((op : Op) → Joining (V·ValueKind .kind .values) fault (map (V·ValueKind .meaning) (now (row .entry))) (now (operands .entry)) op 1 (V·ValueKind .meaning r)) ⌝ }
+{
+    operand_value(operands, 0, fault, row)
+}
+
+// The operands of the gate that comes next after the row, joined two at a time from the left.
 fn join_all<V: ValueKind>(op: Op, operands: &[usize], fault: Option<Fault>, row: &[V]) -> V
     requires some { ⌜ 1 ≤ length (now operands) ⌝ }
     requires below { ⌜ every (λ (o : ℕ). ltb o (length (now row))) (now operands) ≡ true ⌝ }
-    ensures { λ r. ⌜ V·ValueKind .meaning r ≡ joined (V·ValueKind .kind .values .gates) op (operands-from (V·ValueKind .kind .values) fault (map (V·ValueKind .meaning) (now (row .entry))) (length (now (row .entry))) 1 (now (operands .entry))) ⌝ }
+    ensures { λ r. ⌜ V·ValueKind .meaning r ≡ all-joined (V·ValueKind .kind .values) fault (map (V·ValueKind .meaning) (now (row .entry))) (now (operands .entry)) op ⌝ }
 {
-    let line = row.len();
-    let mut value = at_pin(fault, line, 1, row[operands[0]]);
+    let mut value = first_operand(operands, fault, row);
     for index in 1..operands.len() {
-        let next = at_pin(fault, line, index + 1, row[operands[index]]);
+        let next = operand_value(operands, index, fault, row);
         value = join(op, value, next);
     }
     value

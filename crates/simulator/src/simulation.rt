@@ -1,10 +1,10 @@
 // Simulation of a circuit under a cube.
 ghost use mathlib.Core.Path.{_≡_};
-ghost use mathlib.Core.Bool.{true};
+ghost use mathlib.Core.Bool.{true, cond};
 ghost use mathlib.Core.List.{List, [], map};
 ghost use lib.Dec.{leb, ltb};
 ghost use lib.ListN.{length, take, drop};
-ghost use Prim.Native.Nat.{ℕ, _+_, _^_, _≤_};
+ghost use Prim.Native.Nat.{ℕ, _+_, _/_, _^_, _<_, _≤_};
 ghost use Rattle.std.specs.declared.option.Option.the-variants.{Some, None};
 ghost use Rattle.std.specs.Orderings.{Decides};
 ghost use Rattle.words.specs.Lists.{every};
@@ -13,7 +13,9 @@ ghost use Rattle.circuit.specs.Lawful.{gate-fits, each-after};
 ghost use Rattle.circuit.specs.Tables.{gate-model};
 ghost use Rattle.circuit.specs.Circuits.{circuit-model};
 ghost use Rattle.faults.specs.Cubes.{cube-model};
-ghost use Rattle.simulator.specs.Lines.{inputs-row, gates-after};
+ghost use Rattle.simulator.specs.declared.verdict.Verdict.the-variants.{Still, Unsure};
+ghost use Rattle.simulator.specs.Lines.{inputs-row, gate-value, gates-after};
+ghost use Rattle.simulator.specs.Steps.{Placed};
 ghost use Rattle.simulator.specs.Detection.{bit, input-value, judged};
 ghost use Rattle.simulator.specs.Simulation.{drives-beyond, DrivesBeyond, Worked, Simulates};
 ghost use Rattle.simulator.specs.Laws.{Telling};
@@ -59,6 +61,15 @@ fn drive<V: ValueKind>(cube: Cube, fault: Option<Fault>, inputs: usize, row: &mu
     }
 }
 
+// Works out the line of one gate, below which the other lines stand.
+fn settle_line<V: ValueKind>(gate: &Gate, line: usize, fault: Option<Fault>, row: &mut [V])
+    requires fits { ⌜ gate-fits line (gate-model (now gate)) ≡ true ⌝ }
+    requires room { ⌜ line < length (now row) ⌝ }
+    ensures { λ _. ⌜ Placed (V·ValueKind .meaning) line (gate-value (V·ValueKind .kind .values) fault (map (V·ValueKind .meaning) (take line (now (row .entry)))) (gate-model (now (gate .entry)))) (now (row .entry)) (now (row .exit)) ⌝ }
+{
+    row[line] = gate_value(gate, fault, &row[0..line]);
+}
+
 // Works out the lines of the gates, below which those of the inputs stand.
 fn settle<V: ValueKind>(inputs: usize, gates: &[Gate], fault: Option<Fault>, row: &mut [V])
     requires fit { ⌜ each-after (λ (before : List GateModel). gate-fits (inputs + length before)) [] (map gate-model (now gates)) ≡ true ⌝ }
@@ -66,8 +77,18 @@ fn settle<V: ValueKind>(inputs: usize, gates: &[Gate], fault: Option<Fault>, row
     ensures { λ _. ⌜ Worked (V·ValueKind .meaning) (gates-after (V·ValueKind .kind .values) fault (map (V·ValueKind .meaning) (take inputs (now (row .entry)))) (map gate-model (now (gates .entry)))) (inputs + length (now (gates .entry))) (now (row .entry)) (now (row .exit)) ⌝ }
 {
     for (index, gate) in gates.iter().enumerate() {
-        let line = inputs + index;
-        row[line] = gate_value(gate, fault, &row[0..line]);
+        settle_line(gate, inputs + index, fault, row);
+    }
+}
+
+// The verdict where no output shows.
+fn unshown(all_still: bool) -> Verdict
+    ensures { λ r. ⌜ r ≡ cond «all_still» Still Unsure ⌝ }
+{
+    if all_still {
+        Verdict::Still
+    } else {
+        Verdict::Unsure
     }
 }
 
@@ -84,18 +105,22 @@ fn judge<V: ValueKind>(outputs: &[usize], row: &[V]) -> Verdict
         }
         all_still &= value.still();
     }
-    if all_still {
-        Verdict::Still
-    } else {
-        Verdict::Unsure
-    }
+    unshown(all_still)
 }
 
-// Whether some bit of a word is 1 past its lowest bits, of which there are so many.
+// A word without its lowest bits.
+fn bits_from(word: u64, bits: usize) -> u64
+    requires { ⌜ bits ≤ 63 ⌝ }
+    ensures { λ r. ⌜ r ≡ word / 2 ^ bits ⌝ }
+{
+    word >> bits
+}
+
+// Whether some bit of a word is 1 past its lowest ones.
 fn reaches_past(word: u64, bits: usize) -> bool
     ensures { λ r. ⌜ r ≡ leb (2 ^ bits) word ⌝ }
 {
-    bits < 64 && word >> bits > 0
+    bits < 64 && bits_from(word, bits) > 0
 }
 
 // Whether the cube drives an input that the circuit lacks.
@@ -142,7 +167,9 @@ pub fn simulate_fault<V: ValueKind>(
     ensures empty { λ _. ⌜ now (socket .exit) .fault ≡ None ⌝ }
 {
     let plug = socket.plug(fault);
-    simulate(circuit, cube, plug.socket(), row)
+    let answer = simulate(circuit, cube, plug.socket(), row);
+    plug.unplug();
+    answer
 }
 
 // Runs nothing: its contract is a theorem that the crate owes, for every kind.

@@ -56,4 +56,11 @@ impl Plug<'_> {
     {
         self.socket
     }
+
+    // Ends the plugging here: the socket is empty again.
+    pub fn unplug(self)
+        ensures { λ _. ⌜ now (self .exit .0) .fault ≡ None ⌝ }
+    {
+        let _ended = self;
+    }
 }

@@ -4,7 +4,8 @@ use Prim.Native.Nat.{ℕ}
 use lib.ListN.{length}
 use Rattle.std.proofs.shelf.Lists.{length-map}
 use Rattle.std.specs.Of.Vec.{vec-items}
-use Rattle.simulator.specs.Lines.{at-pin, ended, joined, operands-from}
+use Rattle.simulator.specs.Lines.{at-pin, ended}
+use Rattle.simulator.specs.Steps.{all-joined}
 use Rattle.simulator.proofs.gates.gate_value.Needs as need
 
 pub returns : need.returns
@@ -18,8 +19,5 @@ returns g c =
     c .at-pin .ensures
     ∙ ap (at-pin A f (length row) 0)
     (c .end .ensures
-    ∙ ap (ended (A .gates) op)
-    (c .join-all-joined .ensures
-    ∙ ap (λ (os : List ℕ). joined (A .gates) op (operands-from A f rows (length row) 1 os)) (c .deref .ensures .value)))
-    ∙ ap (λ (n : ℕ). at-pin A f n 0 (ended (A .gates) op (joined (A .gates) op (operands-from A f rows n 1 (vec-items (c .args .gate .now .operands))))))
-    (sym (length-map row (v .meaning)))
+    ∙ ap (ended (A .gates) op) (c .join-all-joined .ensures ∙ ap (λ (os : List ℕ). all-joined A f rows os op) (c .deref .ensures .value)))
+    ∙ ap (λ (n : ℕ). at-pin A f n 0 (ended (A .gates) op (all-joined A f rows (vec-items (c .args .gate .now .operands)) op))) (sym (length-map row (v .meaning)))

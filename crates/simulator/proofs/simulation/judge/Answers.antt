@@ -1,9 +1,7 @@
-use mathlib.Core.Path.{sym, ap, _∙_}
-use mathlib.Core.Bool.{Bool, cond}
+use mathlib.Core.Path.{_∙_}
 use mathlib.Core.List.{map}
 use lib.ListN.{length}
 use native.Mathlib.Omega.{arith}
-use Rattle.simulator.specs.declared.verdict.Verdict.the-variants.{Still, Unsure}
 use Rattle.simulator.proofs.Places.{below-at, read-line}
 use Rattle.simulator.proofs.Judging.{judge-first, judge-shows, judge-more, judge-end}
 use Rattle.simulator.proofs.simulation.judge.Needs as need
@@ -35,12 +33,7 @@ returns-then-shows g c =
     (below-at (length (c .args .row .now)) (c .args .outputs .now) (c .loop-output .output-index) 0 (c .loop-output-test .taken) (c .pre)) (c .index-row-output .is))
     (c .loop-output .inv) (c .if-shows .ensures tt)
 
-pub returns-then-all-still : need.returns-then-all-still
-returns-then-all-still g c =
-    ap (λ (b : Bool). cond b Still Unsure) (sym (c .if-all-still .taken))
-    ∙ judge-end (map (g .V·ValueKind .meaning) (c .args .row .now)) (c .args .outputs .now) (c .loop-output .output-index) (c .loop-output .all-still) (c .loop-output-test .left) (c .loop-output .inv)
-
-pub returns-else-all-still : need.returns-else-all-still
-returns-else-all-still g c =
-    ap (λ (b : Bool). cond b Still Unsure) (sym (c .if-all-still .left))
+pub returns : need.returns
+returns g c =
+    c .unshown .ensures
     ∙ judge-end (map (g .V·ValueKind .meaning) (c .args .row .now)) (c .args .outputs .now) (c .loop-output .output-index) (c .loop-output .all-still) (c .loop-output-test .left) (c .loop-output .inv)

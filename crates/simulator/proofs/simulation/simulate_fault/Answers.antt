@@ -1,4 +1,4 @@
-use mathlib.Core.Path.{_≡_, ap, subst, _∙_}
+use mathlib.Core.Path.{ap, subst, _∙_}
 use borrow.Author.Needs.{needs}
 use Rattle.std.specs.declared.option.Option.{Option}
 use Rattle.circuit.specs.Circuits.{circuit-model}
@@ -12,10 +12,11 @@ use Rattle.simulator.proofs.simulation.simulate_fault.Needs as need
 pub returns : need.returns
 returns g c =
     let v = g .V·ValueKind in
+    let answer = c .simulate-answer in
     record {
       simulates =
-          subst (λ (o : Option Fault). Simulates (v .kind) (v .meaning) (circuit-model (c .args .circuit .now)) o (cube-model (c .args .cube)) (c .args .row .now) (c .simulate .last .row) (c .simulate .result))
+          subst (λ (o : Option Fault). Simulates (v .kind) (v .meaning) (circuit-model (c .args .circuit .now)) o (cube-model (c .args .cube)) (c .args .row .now) (answer .last .row) (answer .result))
           (ap (λ (s : Socket). s .fault) (c .socket .ensures) ∙ c .plug-plug .ensures .holds)
-          (c .simulate .ensures);
+          (answer .ensures);
       empty = search needs;
     }
