@@ -114,7 +114,11 @@ pub enum FolderRefusal {
     LevelAboveOne,
     AlreadyEntered,
     FolderFull,
+    // the work row has fewer places than the circuit has lines
+    RowTooShort,
     LevelNotDriven,
+    // a cube drives an input that the circuit lacks
+    InputMissing,
 }
 
 impl FolderRefusal {
@@ -127,7 +131,9 @@ impl FolderRefusal {
             FolderRefusal::LevelAboveOne => 13,
             FolderRefusal::AlreadyEntered => 14,
             FolderRefusal::FolderFull => 15,
+            FolderRefusal::RowTooShort => 20,
             FolderRefusal::LevelNotDriven => 22,
+            FolderRefusal::InputMissing => 23,
         }
     }
 }

@@ -1,0 +1,10 @@
+pub mod Places
+pub mod Joining
+pub mod Filling
+pub mod Judging
+pub mod Driving
+pub mod Rules
+pub mod Simulating
+pub mod Relating
+pub mod Readings
+pub mod Telling
