@@ -4,11 +4,9 @@ use mathlib.Core.Bool.{Bool, true, false, _&&_, cond}
 use mathlib.Core.List.{List}
 use Prim.Native.Nat.{ℕ, _+_, _<_, _≤_}
 use lib.ListN.{length, getD, drop}
-use Rattle.words.specs.Lists.{every, some}
 use Rattle.words.proofs.Steps.{every-end, some-yes, some-no, some-end}
 use Rattle.std.proofs.shelf.Lists.{drop-more}
 use Rattle.values.specs.Pairs.{Pairs, shows, still}
-use Rattle.simulator.specs.declared.verdict.Verdict.{Verdict}
 use Rattle.simulator.specs.declared.verdict.Verdict.the-variants.{Shows, Still, Unsure}
 use Rattle.simulator.specs.Detection.{set-of, some-shows, all-still, judged}
 

@@ -10,7 +10,7 @@ use Rattle.values.specs.Pairs.{Pair, pair}
 use Rattle.values.specs.Values.{levels, faulty-levels, pairs}
 use Rattle.circuit.specs.Model.{Circuit}
 use Rattle.faults.specs.declared.fault.Fault.{Fault}
-use Rattle.simulator.specs.Lines.{at-pin, lines}
+use Rattle.simulator.specs.Lines.{lines}
 use Rattle.simulator.specs.Detection.{bit, levels-under, pair-under}
 use Rattle.simulator.proofs.Relating.{KeepsGates, KeepsPins, stuck-keeps, line-keeps}
 

@@ -1,5 +1,5 @@
 -- One relation between two readings of a circuit: what gates and pins keep, every line keeps.
-use mathlib.Core.Path.{_≡_, refl, sym, ap, subst, _∙_}
+use mathlib.Core.Path.{_≡_, refl, ap, subst}
 use mathlib.Core.Bool.{Bool, true, false, _&&_, cond}
 use mathlib.Core.List.{List, [], _∷_, _++_}
 use Prim.Native.Nat.{ℕ, zero, suc, _+_, _<_}
@@ -14,7 +14,7 @@ use Rattle.circuit.specs.declared.op.Op.{Op}
 use Rattle.circuit.specs.declared.op.Op.the-variants.{And, Nand, Or, Nor, Xor, Xnor, Not, Buf}
 use Rattle.circuit.specs.Model.{Gate, Circuit}
 use Rattle.faults.specs.declared.fault.Fault.{Fault}
-use Rattle.simulator.specs.Lines.{at-pin, join, ended, joined, line-value, operands-from, gate-value, gates-after, inputs-row, lines}
+use Rattle.simulator.specs.Lines.{at-pin, join, ended, joined, operands-from, gate-value, gates-after, inputs-row, lines}
 
 -- what gates make of related values is related
 pub record KeepsGates {V W : Type 0} (G : Gates V) (H : Gates W) (R : V → W → Type 0) : Type 0 where

@@ -1,12 +1,12 @@
 -- What the rules of circuits say of simulation.
-use mathlib.Core.Path.{_≡_, refl, sym, ap, _∙_}
-use mathlib.Core.Bool.{Bool, true, _&&_}
+use mathlib.Core.Path.{_≡_, refl}
+use mathlib.Core.Bool.{true}
 use mathlib.Core.List.{List, [], _∷_, _++_}
 use Prim.Native.Nat.{ℕ, _+_, _≤_}
 use lib.Dec.{leb, ltb}
 use lib.ListN.{length}
 use Rattle.std.proofs.shelf.Tests.{and-parts, and-from, leb-true}
-use Rattle.words.specs.Lists.{every, some}
+use Rattle.words.specs.Lists.{every}
 use Rattle.circuit.specs.Model.{Gate, Circuit, line-count}
 use Rattle.circuit.specs.Lawful.{each-after, between, gate-fits, new-output, lawful}
 

@@ -1,5 +1,5 @@
 -- Inputs, gates and outputs, one after the other, are a simulation.
-use mathlib.Core.Path.{_≡_, refl, sym, ap, subst, _∙_}
+use mathlib.Core.Path.{_≡_, sym, ap, subst, _∙_}
 use mathlib.Core.Bool.{Bool, true, false, cond}
 use mathlib.Core.List.{List, [], map}
 use Prim.Native.Nat.{ℕ, _+_, _-_, _≤_}
@@ -10,9 +10,7 @@ use lib.ListN.{length, take, drop}
 use Rattle.std.proofs.shelf.Lists.{drop-drop, length-map}
 use Rattle.std.proofs.shelf.Tests.{le-ltb}
 use Rattle.std.specs.declared.option.Option.{Option}
-use Rattle.std.specs.declared.result.Result.{Result}
 use Rattle.std.specs.declared.result.Result.the-variants.{Ok, Err}
-use Rattle.refusals.specs.declared.layers.FolderRefusal.{FolderRefusal}
 use Rattle.refusals.specs.declared.layers.FolderRefusal.the-variants.{RowTooShort, InputMissing}
 use Rattle.words.specs.Lists.{every}
 use Rattle.values.specs.Pairs.{Pairs}

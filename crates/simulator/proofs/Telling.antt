@@ -3,7 +3,7 @@ use mathlib.Core.Path.{_≡_, refl, sym, ap, subst, _∙_}
 use mathlib.Core.Bool.{Bool, true, false, not, _&&_, _||_, cond, false≢true, or-true}
 use mathlib.Core.List.{List, [], _∷_}
 use Prim.Native.Nat.{ℕ, _<_}
-use lib.ListN.{length, getD}
+use lib.ListN.{length}
 use Rattle.std.specs.declared.option.Option.{Option}
 use Rattle.words.specs.Lists.{every, some}
 use Rattle.values.specs.Pairs.{Pair, Pairs, pair, has, _∈_, shows, still, only, Single}
@@ -13,12 +13,11 @@ use Rattle.values.proofs.Members.{only-has, only-is}
 use Rattle.circuit.specs.Model.{Circuit}
 use Rattle.faults.specs.declared.fault.Fault.{Fault}
 use Rattle.faults.specs.Cubes.{Cube}
-use Rattle.simulator.specs.declared.verdict.Verdict.{Verdict}
 use Rattle.simulator.specs.declared.verdict.Verdict.the-variants.{Shows, Still, Unsure}
 use Rattle.simulator.specs.Detection.{bit, input-value, simulated, set-of, detected, quiet, verdict, pair-under, detects, Fills, DrivesAll}
 use Rattle.simulator.specs.Laws.{Keeps-vectors, Shown-are-tests, Quiet-detect-nothing, Vectors-are-shown, Telling, Tells}
 use Rattle.simulator.proofs.Relating.{KeepsGates, KeepsPins, stuck-keeps, line-keeps}
-use Rattle.simulator.proofs.Readings.{vector, pair-line, pair-is}
+use Rattle.simulator.proofs.Readings.{vector, pair-is}
 
 -- what sets of pairs say of their members
 

@@ -6,7 +6,7 @@ use Prim.Native.Nat.{ℕ, _/_, _%_, _^_, _<_}
 use lib.Dec.{eqb}
 use lib.ListN.{length, getD}
 use Rattle.std.specs.declared.option.Option.{Option}
-use Rattle.std.specs.declared.option.Option.the-variants.{Some, None}
+use Rattle.std.specs.declared.option.Option.the-variants.{None}
 use Rattle.words.specs.Lists.{every, some}
 use Rattle.values.specs.Pairs.{Pair, Pairs, pair, shows, still, only}
 use Rattle.values.specs.Values.{differs, faulty-levels}

@@ -1,4 +1,3 @@
-use Prim.Native.Nat.{_+_}
 use native.Mathlib.Omega.{arith}
 use Rattle.simulator.proofs.Places.{fits-at}
 use Rattle.simulator.proofs.Filling.{settle-first, settle-more, settle-end}
