@@ -1,6 +1,7 @@
 // The ISCAS-85 circuit C17 under the simulator, in the kind nine. For every fault on its lines and pins: which of the 32
 // vectors detect it. Then the verdicts on some cubes. The expected output comes from another simulator (docs/C17.md).
 use circuit::Circuit;
+use circuit::NameDisplay;
 use faults::Cube;
 use faults::Fault;
 use reader::read;
@@ -39,7 +40,18 @@ const CUBE_FAULTS: [NamedFault; 6] = [
 ];
 
 const CUBES: [&str; 12] = [
-    "xxxxx", "0xxxx", "xx0xx", "1x1xx", "x10xx", "x1x0x", "01x0x", "0101x", "x1100", "11111", "00000", "x0x1x",
+    "xxxxx",
+    "0xxxx",
+    "xx0xx",
+    "1x1xx",
+    "x10xx",
+    "x1x0x",
+    "01x0x",
+    "0101x",
+    "x1100",
+    "11111",
+    "00000",
+    "x0x1x",
 ];
 
 // The cube that is written so, an input a letter.
@@ -83,7 +95,12 @@ fn print_vectors(rt: &LibcRuntime, circuit: &Circuit, fault: Fault) -> Result<()
 }
 
 // The faults of a line: its pins in order, stuck at 0 and then at 1.
-fn print_line(rt: &LibcRuntime, circuit: &Circuit, line: usize, pins: usize) -> Result<(), AnyError> {
+fn print_line(
+    rt: &LibcRuntime,
+    circuit: &Circuit,
+    line: usize,
+    pins: usize,
+) -> Result<(), AnyError> {
     for pin in 0..pins {
         for level in 0..2 {
             let Ok(fault) = Fault::new(circuit, line, pin, level) else {

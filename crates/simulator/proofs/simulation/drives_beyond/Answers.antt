@@ -15,5 +15,5 @@ returns c =
     let value : c .reaches-past .result ≡ drives-beyond model q =
     c .reaches-past .ensures
     ∙ ap (leb (2 ^ c .input-count .result)) (c .driven .ensures)
-    ∙ ap (λ (n : ℕ). leb (2 ^ n) (c .args .cube .driven)) (c .input-count .ensures) in
+    ∙ ap (λ (n : ℕ). leb (2 ^ n) (c .args .cube .driven)) (c .input-count .ensures .value) in
     record { value = value; rule = decides-at (c .reaches-past .result) (drives-beyond model q) value (beyond-decides model q) }
