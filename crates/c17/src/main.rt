@@ -1,5 +1,5 @@
-// The ISCAS-85 circuit C17 under the simulator, in the kind nine. For every fault on its lines and pins: which of the 32
-// vectors detect it. Then the verdicts on some cubes. The expected output comes from another simulator (docs/C17.md).
+// The ISCAS-85 circuit C17 under the simulator. For every fault on its lines and pins: which of the 32 vectors detect it, in
+// the kind nine. Then the verdicts of the three kinds on some cubes. The expected output comes from another simulator (docs/C17.md).
 use circuit::Circuit;
 use circuit::NameDisplay;
 use faults::Cube;
@@ -10,9 +10,10 @@ use simulator::Socket;
 use simulator::Verdict;
 use simulator::simulate_fault;
 use std::error::AnyError;
+use values::five::FiveKind;
 use values::kind::ValueKind;
-use values::nine::Nine;
 use values::nine::NineKind;
+use values::seven::SevenKind;
 
 const C17: &[u8] = b"(inputs n1 n2 n3 n6 n7)
 (gate n10 (nand n1 n3))
@@ -25,33 +26,37 @@ const C17: &[u8] = b"(inputs n1 n2 n3 n6 n7)
 ";
 
 const INPUTS: u64 = 5;
+const LINES: usize = 11;
 
 // A fault by the name of its line.
 #[derive(Clone, Copy)]
 struct NamedFault(&'static str, usize, usize);
 
-const CUBE_FAULTS: [NamedFault; 6] = [
+const CUBE_FAULTS: [NamedFault; 8] = [
     NamedFault("n1", 0, 1),
     NamedFault("n3", 0, 0),
-    NamedFault("n11", 0, 1),
+    NamedFault("n3", 0, 1),
+    NamedFault("n6", 0, 1),
+    NamedFault("n11", 0, 0),
     NamedFault("n16", 2, 0),
     NamedFault("n19", 1, 1),
     NamedFault("n22", 0, 0),
 ];
 
-const CUBES: [&str; 12] = [
+const CUBES: [&str; 13] = [
     "xxxxx",
     "0xxxx",
-    "xx0xx",
     "1x1xx",
-    "x10xx",
     "x1x0x",
-    "01x0x",
     "0101x",
     "x1100",
     "11111",
-    "00000",
-    "x0x1x",
+    "xx111",
+    "x111x",
+    "xx011",
+    "x101x",
+    "xx101",
+    "0x011",
 ];
 
 // The cube that is written so, an input a letter.
@@ -71,8 +76,20 @@ fn cube_of(letters: &str) -> Result<Cube, FolderRefusal> {
     Cube::new(driven, level)
 }
 
-fn verdict(circuit: &Circuit, fault: Fault, cube: Cube) -> Result<Verdict, FolderRefusal> {
-    let mut row = [NineKind::unknown(); 16];
+fn five_verdict(circuit: &Circuit, fault: Fault, cube: Cube) -> Result<Verdict, FolderRefusal> {
+    let mut row = [FiveKind::unknown(); LINES];
+    let mut socket = Socket::new();
+    simulate_fault(circuit, cube, fault, &mut socket, &mut row)
+}
+
+fn seven_verdict(circuit: &Circuit, fault: Fault, cube: Cube) -> Result<Verdict, FolderRefusal> {
+    let mut row = [SevenKind::unknown(); LINES];
+    let mut socket = Socket::new();
+    simulate_fault(circuit, cube, fault, &mut socket, &mut row)
+}
+
+fn nine_verdict(circuit: &Circuit, fault: Fault, cube: Cube) -> Result<Verdict, FolderRefusal> {
+    let mut row = [NineKind::unknown(); LINES];
     let mut socket = Socket::new();
     simulate_fault(circuit, cube, fault, &mut socket, &mut row)
 }
@@ -83,7 +100,7 @@ fn print_vectors(rt: &LibcRuntime, circuit: &Circuit, fault: Fault) -> Result<()
         let Ok(cube) = Cube::new((1 << INPUTS) - 1, vector) else {
             return Err("no such cube".into());
         };
-        match verdict(circuit, fault, cube) {
+        match nine_verdict(circuit, fault, cube) {
             Ok(Verdict::Shows) => print!(rt, "1")?,
             Ok(Verdict::Still) => print!(rt, "0")?,
             Ok(Verdict::Unsure) => print!(rt, "?")?,
@@ -116,6 +133,16 @@ fn print_line(
     Ok(())
 }
 
+fn word(verdict: Result<Verdict, FolderRefusal>) -> &'static str {
+    match verdict {
+        Ok(Verdict::Shows) => "shows",
+        Ok(Verdict::Still) => "still",
+        Ok(Verdict::Unsure) => "unsure",
+        Err(_) => "refused",
+    }
+}
+
+// The verdicts of the three kinds on each cube.
 fn print_cubes(rt: &LibcRuntime, circuit: &Circuit, named: NamedFault) -> Result<(), AnyError> {
     let NamedFault(name, pin, level) = named;
     let line = circuit.line_named(name.as_bytes()).ok_or("no such line")?;
@@ -126,13 +153,10 @@ fn print_cubes(rt: &LibcRuntime, circuit: &Circuit, named: NamedFault) -> Result
         let Ok(cube) = cube_of(letters) else {
             return Err("no such cube".into());
         };
-        let word = match verdict(circuit, fault, cube) {
-            Ok(Verdict::Shows) => "shows",
-            Ok(Verdict::Still) => "still",
-            Ok(Verdict::Unsure) => "unsure",
-            Err(_) => return Err("refused".into()),
-        };
-        println!(rt, "{name} {pin} {level} {letters} {word}")?;
+        let five = word(five_verdict(circuit, fault, cube));
+        let seven = word(seven_verdict(circuit, fault, cube));
+        let nine = word(nine_verdict(circuit, fault, cube));
+        println!(rt, "{name} {pin} {level} {letters} {five} {seven} {nine}")?;
     }
     Ok(())
 }
