@@ -26,6 +26,7 @@ const C17: &[u8] = b"(inputs n1 n2 n3 n6 n7)
 ";
 
 const INPUTS: u64 = 5;
+
 const LINES: usize = 11;
 
 // A fault by the name of its line.
