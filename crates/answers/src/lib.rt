@@ -1,5 +1,7 @@
 // Known answers of the circuit reader: tables of texts, each with the answer that reading it must give. The answers were
 // worked out by hand from the rules, and none was copied from a run.
+#![tactic(auto)]
+
 #[cfg(test)]
 mod bytes;
 #[cfg(test)]

@@ -1,5 +1,7 @@
 // The ISCAS-85 circuit C17 under the simulator. For every fault on its lines and pins: which of the 32 vectors detect it, in
 // the kind nine. Then the verdicts of the three kinds on some cubes. The expected output comes from another simulator (docs/C17.md).
+#![tactic(auto)]
+
 use anyhow::{Context, anyhow};
 use circuit::Circuit;
 use faults::{Cube, Fault};

@@ -1,4 +1,6 @@
 // Circuits of gates: tables of inputs, gates and outputs under the rules that every circuit keeps.
+#![tactic(auto)]
+
 mod build;
 pub mod circuit;
 pub mod gate;

@@ -1,4 +1,6 @@
 // Stuck-at faults of a circuit, and cubes of its inputs.
+#![tactic(auto)]
+
 mod build;
 pub mod cube;
 pub mod fault;

@@ -1,4 +1,6 @@
 // The folder of a circuit: its faults, each with what is known of it.
+#![tactic(auto)]
+
 mod calls;
 mod cover;
 pub mod entry;

@@ -1,4 +1,6 @@
 // The program `folders`: a circuit text and job lines from standard input, a reply to each on standard output.
+#![tactic(auto)]
+
 use anyhow::anyhow;
 use circuit::Circuit;
 use folder::Folder;

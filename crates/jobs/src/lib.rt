@@ -1,4 +1,6 @@
 // Job lines: what they ask for, and how they are read.
+#![tactic(auto)]
+
 pub mod job;
 mod numbers;
 mod parts;

@@ -1,4 +1,6 @@
 // The law of the folder: what its entries say of vectors and cubes, after any calls.
+#![tactic(auto)]
+
 pub mod call;
 mod performing;
 

@@ -1,4 +1,6 @@
 // Reads a circuit from its text.
+#![tactic(auto)]
+
 mod gates;
 mod head;
 mod lines;

@@ -1,4 +1,6 @@
 // Why a call says no: one enum for each layer, and `Refusal` above them.
+#![tactic(auto)]
+
 pub mod cause;
 pub mod layers;
 

@@ -1,4 +1,6 @@
 // A session: a folder, the kind that was chosen for it, and the job lines that are answered one after the other.
+#![tactic(auto)]
+
 mod answer;
 mod lines;
 pub mod reply;

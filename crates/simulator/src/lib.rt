@@ -1,4 +1,6 @@
 // Simulation of a circuit under a cube, with the fault that is plugged into a socket.
+#![tactic(auto)]
+
 mod gates;
 pub mod simulation;
 pub mod socket;

@@ -1,4 +1,6 @@
 // Values of lines in a circuit with and without a fault: what a value kind is, and the kinds five, seven and nine.
+#![tactic(auto)]
+
 pub mod five;
 pub mod half;
 pub mod kind;

@@ -1,4 +1,6 @@
 // The visit of cubes that finds a test for a fault which drives as few inputs as any.
+#![tactic(auto)]
+
 pub mod answer;
 mod known;
 mod progress;

@@ -1,4 +1,6 @@
 // The words of a text: brackets and runs of letters and digits, each with its place.
+#![tactic(auto)]
+
 mod bytes;
 pub mod expect;
 pub mod lexer;
