@@ -21,13 +21,13 @@ inside i gs h = simp length-map h
 outside : (i : ℕ) (gs : List code.Gate) → length gs ≤ i → length (map gate_model gs) ≤ i
 outside i gs h = simp length-map h
 
-pub returns-then-not-gate-fits : goal.returns-then-not-gate-fits
-returns-then-not-gate-fits c =
+pub returns-then-not-gate_fits : goal.returns-then-not-gate_fits
+returns-then-not-gate_fits c =
     let i = c.loop-index.index in
     let g = c.index-gates-index.result in
     let gs = c.args.gates.now in
     sym (after_no (λ (before : List Gate). gate_fits (c.args.inputs + length before)) (map gate_model gs) i (gate_model g) (inside i gs c.loop-index-test.true)
-    (tested c.args.inputs i gs g c.loop-index-test.true c.index-gates-index.is ∙ sym c.if-not-gate-fits.ensures))
+    (tested c.args.inputs i gs g c.loop-index-test.true c.index-gates-index.is ∙ sym c.if-not-gate_fits.ensures))
     ∙ c.loop-index.invariant
 
 pub loop-index-preserved : goal.loop-index-preserved
@@ -36,7 +36,7 @@ loop-index-preserved c =
     let g = c.index-gates-index.result in
     let gs = c.args.gates.now in
     sym (after_yes (λ (before : List Gate). gate_fits (c.args.inputs + length before)) (map gate_model gs) i (gate_model g) (inside i gs c.loop-index-test.true)
-    (tested c.args.inputs i gs g c.loop-index-test.true c.index-gates-index.is ∙ sym c.if-not-gate-fits.ensures))
+    (tested c.args.inputs i gs g c.loop-index-test.true c.index-gates-index.is ∙ sym c.if-not-gate_fits.ensures))
     ∙ c.loop-index.invariant
 
 pub returns : goal.returns

@@ -10,10 +10,10 @@ returns-in-Some c =
     let told = c.in-Some.ensures.lookup in
     let count : c.len-2.result ≡ vec_len c.args.tables.now.inputs = c.len-2.ensures in
     let gates : c.deref.result.now ≡ vec_items c.args.tables.now.gates = c.deref.ensures.value in
-    gate_name_at c.args.tables.now c.args.line c.in-Some.gate.now c.as-ref.result (omega arith)
+    gate_name_at c.args.tables.now c.args.line c.in-Some.gate.now c.as_ref.result (omega arith)
     (omega (arith, told.3.0, ap length gates, count))
     (cc told.1)
-    c.as-ref.ensures.value
+    c.as_ref.ensures.value
 
 pub returns-in-None : goal.returns-in-None
 returns-in-None c =

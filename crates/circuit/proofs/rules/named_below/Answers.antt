@@ -10,11 +10,11 @@ within : (ns : List (Option (List ℕ))) (word : List ℕ) (count line : ℕ) (n
     → has_name word (get_or (take count ns) line None) ≡ b
 within ns word count line name b h e t = ap (has_name word) (get_or-take count ns line None h ∙ sym e) ∙ sym t
 
-pub returns-then-has-name : goal.returns-then-has-name
-returns-then-has-name c =
+pub returns-then-has_name : goal.returns-then-has_name
+returns-then-has_name c =
     let ns = names (tables_model c.args.tables.now) in
     let word = c.args.word.now in
-    let named = within ns word c.args.count c.loop-line.line _ _ c.loop-line-test.true c.name-at.ensures c.has_name.ensures ∙ c.if-has-name.true in
+    let named = within ns word c.args.count c.loop-line.line _ _ c.loop-line-test.true c.name_at.ensures c.has_name.ensures ∙ c.if-has_name.true in
     search_found (take c.args.count ns) word c.loop-line.line (named_inside (take c.args.count ns) word c.loop-line.line named) named c.loop-line.invariant
 
 pub loop-line-preserved : goal.loop-line-preserved
@@ -22,7 +22,7 @@ loop-line-preserved c =
     let ns = names (tables_model c.args.tables.now) in
     let word = c.args.word.now in
     search_on (take c.args.count ns) word c.loop-line.line
-    (within ns word c.args.count c.loop-line.line _ _ c.loop-line-test.true c.name-at.ensures c.has_name.ensures ∙ c.if-has-name.false)
+    (within ns word c.args.count c.loop-line.line _ _ c.loop-line-test.true c.name_at.ensures c.has_name.ensures ∙ c.if-has_name.false)
     c.loop-line.invariant
 
 pub returns : goal.returns

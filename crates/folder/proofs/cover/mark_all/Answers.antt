@@ -5,8 +5,8 @@ use Rattle.folder.proofs.Marking.{Marked, counted_le, mark_more, mark_first, mar
 use Rattle.folder.proofs.cover.mark_all.Goals as goal
 use Rattle.folder.proofs.cover.mark_all.Goals.{then-mark, else-mark}
 
-pub overflow-add-count : goal.overflow-add-count
-overflow-add-count g c =
+pub overflow_add-count : goal.overflow_add-count
+overflow_add-count g c =
     omega (
       arith,
       counted_le g.V.ValueKind.kind (circuit_model c.args.circuit.now) c.args.number (cube_model c.args.cube) c.args.entries.now

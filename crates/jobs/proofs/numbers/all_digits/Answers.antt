@@ -5,11 +5,11 @@ use Rattle.jobs.proofs.numbers.all_digits.Goals as goal
 
 pub loop-byte-preserved : goal.loop-byte-preserved
 loop-byte-preserved c =
-    sym (every_yes digit c.args.word.now c.loop-byte.byte-index 0 (omega arith) (sym c.is-digit.ensures ∙ c.if-not-is-digit.false)) ∙ c.loop-byte.invariant
+    sym (every_yes digit c.args.word.now c.loop-byte.byte-index 0 (omega arith) (sym c.is_digit.ensures ∙ c.if-not-is_digit.false)) ∙ c.loop-byte.invariant
 
-pub returns-then-not-is-digit : goal.returns-then-not-is-digit
-returns-then-not-is-digit c =
-    sym (every_no digit c.args.word.now c.loop-byte.byte-index 0 (omega arith) (sym c.is-digit.ensures ∙ c.if-not-is-digit.true)) ∙ c.loop-byte.invariant
+pub returns-then-not-is_digit : goal.returns-then-not-is_digit
+returns-then-not-is_digit c =
+    sym (every_no digit c.args.word.now c.loop-byte.byte-index 0 (omega arith) (sym c.is_digit.ensures ∙ c.if-not-is_digit.true)) ∙ c.loop-byte.invariant
 
 pub returns : goal.returns
 returns c = sym (every_end digit c.args.word.now c.loop-byte.byte-index 0 (omega arith)) ∙ c.loop-byte.invariant

@@ -5,14 +5,14 @@ use Rattle.jobs.specs.Numbers.{number_value}
 use Rattle.jobs.proofs.Digits.{at_most_seven, digit_at, grows, bounded}
 use Rattle.jobs.proofs.numbers.value_of.Goals as goal
 
-pub overflow-sub-byte : goal.overflow-sub-byte
-overflow-sub-byte c = omega (arith, (digit_at c.args.word.now c.loop-byte.byte-index c.requires (omega arith)).0)
+pub overflow_sub-byte : goal.overflow_sub-byte
+overflow_sub-byte c = omega (arith, (digit_at c.args.word.now c.loop-byte.byte-index c.requires (omega arith)).0)
 
-pub overflow-mul-value : goal.overflow-mul-value
-overflow-mul-value c = omega (arith, bounded c.loop-byte.value c.loop-byte.byte-index c.loop-byte.invariant.1 (omega (arith, at_most_seven c.args.word.now c.requires)))
+pub overflow_mul-value : goal.overflow_mul-value
+overflow_mul-value c = omega (arith, bounded c.loop-byte.value c.loop-byte.byte-index c.loop-byte.invariant.1 (omega (arith, at_most_seven c.args.word.now c.requires)))
 
-pub overflow-add-value : goal.overflow-add-value
-overflow-add-value c =
+pub overflow_add-value : goal.overflow_add-value
+overflow_add-value c =
     omega (
       arith,
       bounded c.loop-byte.value c.loop-byte.byte-index c.loop-byte.invariant.1 (omega (arith, at_most_seven c.args.word.now c.requires)),

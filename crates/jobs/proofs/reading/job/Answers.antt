@@ -11,6 +11,6 @@ use Rattle.jobs.proofs.reading.job.Goals as goal
 pub returns-in-Fault : goal.returns-in-Fault
 returns-in-Fault c =
     let ns = names (circuit_model c.args.circuit.now) in
-    leads_from {X = Job} _ _ c.fault-job.result _
-    (c.in-ok-head.ensures ns ∙ ap (λ (h : Head). at ns c.args.chosen (after_head h) c.head.new.lexer) c.in-Fault.is)
-    (c.fault-job.ensures c.args.chosen)
+    leads_from {X = Job} _ _ c.fault_job.result _
+    (c.in_ok-head.ensures ns ∙ ap (λ (h : Head). at ns c.args.chosen (after_head h) c.head.new.lexer) c.in-Fault.is)
+    (c.fault_job.ensures c.args.chosen)

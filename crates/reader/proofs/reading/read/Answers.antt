@@ -5,7 +5,7 @@ use Rattle.reader.proofs.reading.read.Goals as goal
 
 pub returns : goal.returns
 returns c = record {
-  reads = c.read-text.ensures;
-  follows = follows c.args.text.now c.read-text.result (circuit_model c.read-text.new.circuit) c.read-text.ensures;
+  reads = c.read_text.ensures;
+  follows = follows c.args.text.now c.read_text.result (circuit_model c.read_text.new.circuit) c.read_text.ensures;
   unique = one_circuit;
 }

@@ -8,11 +8,11 @@ use Rattle.reader.proofs.reading.read_text.Goals as goal
 pub unreachable-requires : goal.unreachable-requires
 unreachable-requires c =
     let granted =
-    reads_text c.args.text.now c.new-parser.result (Granted (so_far c.circuit-text.new.self) c.in-ok-place.place) (omega arith) c.new-parser.ensures.ahead c.new-parser.ensures.nothing c.in-ok-place.ensures.leads
+    reads_text c.args.text.now c.new-parser.result (Granted (so_far c.circuit_text.new.self) c.in_ok-place.place) (omega arith) c.new-parser.ensures.ahead c.new-parser.ensures.nothing c.in_ok-place.ensures.leads
     in
-    true≢false (sym (granted_lawful c.args.text.now (so_far c.circuit-text.new.self) c.in-ok-place.place granted) ∙ c.in-Err.ensures.0)
+    true≢false (sym (granted_lawful c.args.text.now (so_far c.circuit_text.new.self) c.in_ok-place.place granted) ∙ c.in-Err.ensures.0)
 
-pub split-at-requires : goal.split-at-requires
-split-at-requires c =
-    reading_short c.args.text.now (so_far c.circuit-text.new.self) c.in-ok-place.place
-    (reads_text c.args.text.now c.new-parser.result (Granted (so_far c.circuit-text.new.self) c.in-ok-place.place) (omega arith) c.new-parser.ensures.ahead c.new-parser.ensures.nothing c.in-ok-place.ensures.leads)
+pub split_at-requires : goal.split_at-requires
+split_at-requires c =
+    reading_short c.args.text.now (so_far c.circuit_text.new.self) c.in_ok-place.place
+    (reads_text c.args.text.now c.new-parser.result (Granted (so_far c.circuit_text.new.self) c.in_ok-place.place) (omega arith) c.new-parser.ensures.ahead c.new-parser.ensures.nothing c.in_ok-place.ensures.leads)

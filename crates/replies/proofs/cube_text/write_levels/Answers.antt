@@ -11,7 +11,7 @@ loop-input-init g c = λ plain. record { wrote = writes_in_calls_nil _ _; plain 
 pub loop-input-preserved : goal.loop-input-preserved
 loop-input-preserved g c = λ plain.
     let before = c.loop-input.invariant plain in
-    let printed = c.write-char.ensures.writes before.plain (ap is_ok c.in-ok-write-char.was) in
+    let printed = c.write_char.ensures.writes before.plain (ap is_ok c.in_ok-write_char.was) in
     let d = c.args.cube.driven in
     let l = c.args.cube.level in
     has_written_of_eq g.W.Write.write_str_gives _ _ _ _

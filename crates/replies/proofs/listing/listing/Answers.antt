@@ -19,10 +19,10 @@ loop-number-preserved c =
     let i = c.loop-number.number in
     let e = c.index-entries-number.result in
     let d = circuit_model c.circuit-circuit.result.now in
-    let counted : c.tested-in-tested.result ≡ cond (is_tested (entry_model e).state) 1 0 = c.tested-in-tested.ensures ∙ ap (λ (s : State). cond (is_tested (state_model s)) 1 0) c.state.ensures in (
-      sym (rows_more es i e c.loop-number-test.true c.index-entries-number.is d (string_bytes c.loop-number.text) (string_bytes c.append-entry.new.text) _ c.in-ok-append-entry.ensures c.line-of.ensures) ∙ c.loop-number.invariant.0,
+    let counted : c.tested_in-tested.result ≡ cond (is_tested (entry_model e).state) 1 0 = c.tested_in-tested.ensures ∙ ap (λ (s : State). cond (is_tested (state_model s)) 1 0) c.state.ensures in (
+      sym (rows_more es i e c.loop-number-test.true c.index-entries-number.is d (string_bytes c.loop-number.text) (string_bytes c.append_entry.new.text) _ c.in_ok-append_entry.ensures c.line_of.ensures) ∙ c.loop-number.invariant.0,
       omega (arith, counted, tested_more es i e c.loop-number-test.true c.index-entries-number.is c.loop-number.tested, c.loop-number.invariant.1),
-      small (is_tested (entry_model e).state) c.tested-in-tested.result c.loop-number.tested i counted c.loop-number.invariant.2,
+      small (is_tested (entry_model e).state) c.tested_in-tested.result c.loop-number.tested i counted c.loop-number.invariant.2,
     )
 
 pub returns : goal.returns
@@ -32,6 +32,6 @@ returns c =
     let text : string_bytes c.loop-number.text ≡ entry_lines d 0 (map entry_model es) = sym (rows_end d es c.loop-number.number (string_bytes c.loop-number.text) c.loop-number-test.false) ∙ c.loop-number.invariant.0 in
     let tested : c.loop-number.tested ≡ tested_count (map entry_model es) = sym (tested_end es c.loop-number.number c.loop-number.tested c.loop-number-test.false) ∙ c.loop-number.invariant.1 in
     let total : length es ≡ length (map entry_model es) = sym (length-map es entry_model) in
-    listed_whole d (map entry_model es) (string_bytes c.loop-number.text) (string_bytes c.append-coverage.new.text) c.loop-number.tested (length es) text tested total c.in-ok-append-coverage.ensures
+    listed_whole d (map entry_model es) (string_bytes c.loop-number.text) (string_bytes c.append_coverage.new.text) c.loop-number.tested (length es) text tested total c.in_ok-append_coverage.ensures
     ∙ ap (λ (x : Circuit). listing (circuit_model x) (map entry_model es)) c.circuit-circuit.ensures
     ∙ ap (λ (xs : List Entry). listing (circuit_model c.args.folder.now.circuit) (map entry_model xs)) c.entries-entries.ensures.value

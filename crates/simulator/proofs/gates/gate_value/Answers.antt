@@ -12,8 +12,8 @@ returns g c =
     let op = c.args.gate.now.op in
     let row = c.args.row.now in
     let rows = map v.meaning row in
-    c.at-pin.ensures
+    c.at_pin.ensures
     ∙ ap (at_pin A f (length row) 0)
     (c.end.ensures
-    ∙ ap (ended A.gates op) (c.join-all-joined.ensures ∙ ap (λ (os : List ℕ). all_joined A f rows os op) c.deref.ensures.value))
+    ∙ ap (ended A.gates op) (c.join_all-joined.ensures ∙ ap (λ (os : List ℕ). all_joined A f rows os op) c.deref.ensures.value))
     ∙ ap (λ (n : ℕ). at_pin A f n 0 (ended A.gates op (all_joined A f rows (vec_items c.args.gate.now.operands) op))) (sym (length-map row v.meaning))

@@ -17,7 +17,7 @@ returns g c =
     let row = c.args.row.now in
     let operands = c.args.operands.now in
     let i = c.args.index in
-    c.at-pin.ensures
+    c.at_pin.ensures
     ∙ ap (at_pin A c.args.fault (length row) (i + 1))
     (read_line v.meaning row (get_or operands i 0) c.index-row-operands.result (A.gates.known false)
     (below_at (length row) operands i 0 c.requires.within c.requires.below) c.index-row-operands.is)

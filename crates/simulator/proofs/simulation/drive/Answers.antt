@@ -10,6 +10,6 @@ loop-input-preserved g c =
     let v = g.V.ValueKind in
     let i = c.loop-input.input in
     drive_more v.meaning v.kind.values c.args.fault (input_value v.kind (cube_model c.args.cube)) c.args.row.now
-    i c.loop-input.row c.at-pin.result (omega arith)
-    (c.at-pin.ensures ∙ ap (at_pin v.kind.values c.args.fault i 0) c.input_value.ensures)
+    i c.loop-input.row c.at_pin.result (omega arith)
+    (c.at_pin.ensures ∙ ap (at_pin v.kind.values c.args.fault i 0) c.input_value.ensures)
     c.loop-input.invariant

@@ -10,8 +10,8 @@ pub returns : goal.returns
 returns c =
     let model = circuit_model c.args.circuit.now in
     let q = cube_model c.args.cube in
-    let value : c.reaches-past.result ≡ drives_beyond model q =
-    c.reaches-past.ensures
+    let value : c.reaches_past.result ≡ drives_beyond model q =
+    c.reaches_past.ensures
     ∙ ap (leb (2 ^ c.input_count.result)) c.driven.ensures
     ∙ ap (λ (n : ℕ). leb (2 ^ n) c.args.cube.driven) c.input_count.ensures.value in
-    record { value = value; rule = Decides-at c.reaches-past.result (drives_beyond model q) value (beyond_decides model q) }
+    record { value = value; rule = Decides-at c.reaches_past.result (drives_beyond model q) value (beyond_decides model q) }

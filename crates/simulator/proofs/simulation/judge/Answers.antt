@@ -19,7 +19,7 @@ loop-output-preserved g c =
     (v.meaning c.index-row-output.result)
     (read_line v.meaning c.args.row.now _ c.index-row-output.result _
     (below_at (length c.args.row.now) c.args.outputs.now c.loop-output.output-index 0 c.loop-output-test.true c.requires) c.index-row-output.is)
-    c.loop-output.invariant c.still-all-still.result c.if-shows.ensures c.still-all-still.ensures
+    c.loop-output.invariant c.still-all_still.result c.if-shows.ensures c.still-all_still.ensures
 
 pub returns-then-shows : goal.returns-then-shows
 returns-then-shows g c =

@@ -4,7 +4,7 @@ use Rattle.simulator.proofs.Driving.{bits_past}
 use Rattle.simulator.proofs.simulation.reaches_past.Goals as goal
 
 pub returns-then-bits-lt64 : goal.returns-then-bits-lt64
-returns-then-bits-lt64 c = ap (ltb 0) c.bits-from.ensures ∙ bits_past c.args.word c.args.bits
+returns-then-bits-lt64 c = ap (ltb 0) c.bits_from.ensures ∙ bits_past c.args.word c.args.bits
 
 pub returns-else-bits-lt64 : goal.returns-else-bits-lt64
 returns-else-bits-lt64 c =

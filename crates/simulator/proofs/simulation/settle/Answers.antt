@@ -8,8 +8,8 @@ loop-index-init g c =
     let v = g.V.ValueKind in
     settle_first v.meaning v.kind.values c.args.fault c.args.inputs c.args.gates.now c.args.row.now
 
-pub settle-line-requires : goal.settle-line-requires
-settle-line-requires g c = record {
+pub settle_line-requires : goal.settle_line-requires
+settle_line-requires g c = record {
   fits = fits_at c.args.inputs c.args.gates.now c.loop-index.index c.index-gates-index.result c.loop-index-test.true c.index-gates-index.is c.requires.fit;
   room = omega arith;
 }
@@ -18,8 +18,8 @@ pub loop-index-preserved : goal.loop-index-preserved
 loop-index-preserved g c =
     let v = g.V.ValueKind in
     settle_more v.meaning v.kind.values c.args.fault c.args.inputs c.args.gates.now c.args.row.now
-    c.loop-index.index c.loop-index.row c.settle-line.new.row c.index-gates-index.result c.loop-index-test.true c.index-gates-index.is (omega arith)
-    c.settle-line.ensures c.loop-index.invariant
+    c.loop-index.index c.loop-index.row c.settle_line.new.row c.index-gates-index.result c.loop-index-test.true c.index-gates-index.is (omega arith)
+    c.settle_line.ensures c.loop-index.invariant
 
 pub returns : goal.returns
 returns g c =

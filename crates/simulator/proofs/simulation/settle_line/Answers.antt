@@ -9,6 +9,6 @@ use Rattle.simulator.proofs.simulation.settle_line.Goals as goal
 cut-length : {X : Type 0} (row : List X) (n : ℕ) → n ≤ length row → n ≡ length (take (n - 0) row)
 cut-length row n h = sym (length-take-le n row h) ∙ ap (λ (m : ℕ). length (take m row)) (sym (sub-zero n))
 
-pub gate-value-requires : goal.gate-value-requires
-gate-value-requires g c =
+pub gate_value-requires : goal.gate_value-requires
+gate_value-requires g c =
     ap (λ (n : ℕ). gate_fits n (gate_model c.args.gate.now)) (sym (cut-length c.args.row.now c.args.line (omega arith))) ∙ c.requires.fits

@@ -5,11 +5,11 @@ use Rattle.words.proofs.spelling.all_in_word.Goals as goal
 
 pub loop-byte-preserved : goal.loop-byte-preserved
 loop-byte-preserved c =
-    sym (every_yes in_word c.args.bytes.now c.loop-byte.byte-index 0 (omega arith) (sym c.is-in-word.ensures ∙ c.if-not-is-in-word.false)) ∙ c.loop-byte.invariant
+    sym (every_yes in_word c.args.bytes.now c.loop-byte.byte-index 0 (omega arith) (sym c.is_in_word.ensures ∙ c.if-not-is_in_word.false)) ∙ c.loop-byte.invariant
 
-pub returns-then-not-is-in-word : goal.returns-then-not-is-in-word
-returns-then-not-is-in-word c =
-    sym (every_no in_word c.args.bytes.now c.loop-byte.byte-index 0 (omega arith) (sym c.is-in-word.ensures ∙ c.if-not-is-in-word.true)) ∙ c.loop-byte.invariant
+pub returns-then-not-is_in_word : goal.returns-then-not-is_in_word
+returns-then-not-is_in_word c =
+    sym (every_no in_word c.args.bytes.now c.loop-byte.byte-index 0 (omega arith) (sym c.is_in_word.ensures ∙ c.if-not-is_in_word.true)) ∙ c.loop-byte.invariant
 
 pub returns : goal.returns
 returns c = sym (every_end in_word c.args.bytes.now c.loop-byte.byte-index 0 (omega arith)) ∙ c.loop-byte.invariant

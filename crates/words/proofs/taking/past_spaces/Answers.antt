@@ -7,5 +7,5 @@ pub loop-place-preserved : goal.loop-place-preserved
 loop-place-preserved c = (
   omega arith,
   omega arith,
-  c.loop-place.invariant.2 ∙ byte_step c.args.text.now c.loop-place.place Space (omega arith) (c.is-space.ensures.yes c.if-is-space.true),
+  c.loop-place.invariant.2 ∙ byte_step c.args.text.now c.loop-place.place Space (omega arith) (c.is_space.ensures.yes c.if-is_space.true),
 )

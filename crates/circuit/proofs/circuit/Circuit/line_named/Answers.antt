@@ -8,5 +8,5 @@ use Rattle.circuit.proofs.circuit.Circuit.line_named.Goals as goal
 pub returns : goal.returns
 returns c =
     let model = circuit_model c.args.self.now in
-    c.named-below.ensures
+    c.named_below.ensures
     ∙ ap (λ (ns : List (Option (List ℕ))). line_named ns c.args.word.now) (take_all c.line_count.result (names model) (omega (arith, names_length model, c.line_count.ensures)))

@@ -12,16 +12,16 @@ pub returns : goal.returns
 returns g c =
     let K = g.V.ValueKind.kind in
     let f = folder_model c.args.self.now in
-    let q = cube_model c.in-ok-cube.cube in
-    let value = c.as-mut-slice.ensures.value in
+    let q = cube_model c.in_ok-cube.cube in
+    let value = c.as_mut_slice.ensures.value in
     record {
-      table = cover_marked K f c.args.number (length c.args.row.now) (entry_model c.in-ok-entry.entry) q
-          c.in-ok-entry.ensures.value c.in-ok-cube.ensures c.in-ok-allow-simulation.ensures c.mark-all.result _
-          (c.mark-all.ensures.value ∙ ap (λ (xs : List code.Entry). count_of (is_covered K f.circuit q) (map entry_model xs)) value)
-          (ap (map entry_model) (with_items_is c.args.self.now.entries c.mark-all.new.entries (c.mark-all.auto.entries ∙ c.as-mut-slice.ensures.len))
-          ∙ c.mark-all.ensures.marks
+      table = cover_marked K f c.args.number (length c.args.row.now) (entry_model c.in_ok-entry.entry) q
+          c.in_ok-entry.ensures.value c.in_ok-cube.ensures c.in_ok-allow_simulation.ensures c.mark_all.result _
+          (c.mark_all.ensures.value ∙ ap (λ (xs : List code.Entry). count_of (is_covered K f.circuit q) (map entry_model xs)) value)
+          (ap (map entry_model) (with_items_is c.args.self.now.entries c.mark_all.new.entries (c.mark_all.auto.entries ∙ c.as_mut_slice.ensures.len))
+          ∙ c.mark_all.ensures.marks
           ∙ ap (λ (xs : List code.Entry). map (marked K f.circuit c.args.number q) (map entry_model xs)) value);
       circuit = refl;
-      socket = c.mark-all.ensures.socket;
+      socket = c.mark_all.ensures.socket;
       row = search rules;
     }

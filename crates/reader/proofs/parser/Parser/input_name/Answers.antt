@@ -12,11 +12,11 @@ use Rattle.reader.proofs.parser.Parser.input_name.Goals as goal
 pub returns-then-len-ge-MOST-NAMES : goal.returns-then-len-ge-MOST-NAMES
 returns-then-len-ge-MOST-NAMES c =
     let p = c.args.self.now in
-    let told = c.in-ok-word.ensures in
+    let told = c.in_ok-word.ensures in
     record {
       leads =
-          refuses_as _ _ (refusal.Circuit (LimitPassed c.in-ok-word.word.place)) c.into.ensures
-          (resumed_at _ _ (ahead p) (input_limit (so_far p) (lexeme c.args.token) c.in-ok-word.word.bytes.now c.in-ok-word.word.place told.0 told.1 told.2 (many_inputs p.tables (omega arith))));
+          refuses_as _ _ (refusal.Circuit (LimitPassed c.in_ok-word.word.place)) c.into.ensures
+          (resumed_at _ _ (ahead p) (input_limit (so_far p) (lexeme c.args.token) c.in_ok-word.word.bytes.now c.in_ok-word.word.place told.0 told.1 told.2 (many_inputs p.tables (omega arith))));
       same = refl;
       word = tt;
     }
@@ -24,13 +24,13 @@ returns-then-len-ge-MOST-NAMES c =
 pub returns : goal.returns
 returns c =
     let p = c.args.self.now in
-    let told = c.in-ok-word.ensures in
+    let told = c.in_ok-word.ensures in
     record {
       leads =
-          resumed_at _ _ (ahead p) (input_added (so_far p) (lexeme c.args.token) c.in-ok-word.word.bytes.now c.in-ok-word.word.place told.0 told.1 told.2 (few_inputs p.tables (omega arith)))
+          resumed_at _ _ (ahead p) (input_added (so_far p) (lexeme c.args.token) c.in_ok-word.word.bytes.now c.in_ok-word.word.place told.0 told.1 told.2 (few_inputs p.tables (omega arith)))
           ∙ ap (λ (d : Circuit). run input_name d (ahead p))
-          (input_pushed p.tables (record { inputs = c.push.new.self; gates = p.tables.gates; outputs = p.tables.outputs }) c.in-ok-name.name c.in-ok-word.word.bytes.now
-          c.in-ok-push.ensures.items refl refl c.in-ok-name.ensures);
+          (input_pushed p.tables (record { inputs = c.push.new.self; gates = p.tables.gates; outputs = p.tables.outputs }) c.in_ok-name.name c.in_ok-word.word.bytes.now
+          c.in_ok-push.ensures.items refl refl c.in_ok-name.ensures);
       same = refl;
       word = ap is_name_word told.0 ∙ told.1;
     }

@@ -5,14 +5,14 @@ use Rattle.words.proofs.lexer.Lexer.next_token.Goals as goal
 
 pub returns : goal.returns
 returns c =
-    let told = c.token-at-end.ensures in
+    let told = c.token_at-end.ensures in
     let text = c.args.self.now.text.now in
-    let start = c.past-spaces.result in
-    let end = c.token-at-end.result.1 in
-    let t = lexeme c.token-at-end.result.0 in
+    let start = c.past_spaces.result in
+    let end = c.token_at-end.result.1 in
+    let t = lexeme c.token_at-end.result.0 in
     record {
-      taken = c.past-spaces.ensures.same ∙ took text start end t told.taken told.after;
-      fewer = omega (arith, fewer_left text start end t told.taken told.after told.again, ap length c.past-spaces.ensures.same);
+      taken = c.past_spaces.ensures.same ∙ took text start end t told.taken told.after;
+      fewer = omega (arith, fewer_left text start end t told.taken told.after told.again, ap length c.past_spaces.ensures.same);
       after = told.after;
       same = refl;
       fits = search rules;
