@@ -1,5 +1,5 @@
 -- The names of lines, by place, and one step of the search for a name.
-use Rattle.std.proofs.Common.{◌≡◌, ℕ, zero, suc, ◌+◌, ◌-◌, ◌<◌, ◌≤◌, Bool, true, false, cond, ◌⊎◌, List, [], ◌∷◌, ◌++◌, map, length, get_or, take, drop, Some, None, vec_items, vec_len, Option, sym, refl, ap, ◌∙◌, inl, inr, add-zero, zero-add, arith, MutBor}
+use Rattle.std.proofs.Common.{◌≡◌, ℕ, zero, suc, ◌+◌, ◌-◌, ◌<◌, ◌≤◌, Bool, true, false, cond, ◌⊎◌, List, [], ◌∷◌, ◌++◌, map, length, get_or, take, drop, Some, None, vec_items, vec_len, Option, sym, refl, ap, ◌∙◌, inl, inr, add-zero, zero-add, arith, Bor}
 use mathlib.Core.Bool.{false≢true}
 use Rattle.std.proofs.lemmas.List.{drop_more, drop_all, get_or_append_left, get_or-append_right, get_or-map, get_or_past, length-map, length-append}
 use Rattle.std.proofs.lemmas.Bool.{cases_lt}
@@ -83,9 +83,9 @@ module _ (t : Tables) (i : ℕ) where
       sym (input_named (tables_model t) i (name_bytes n) (simp length-map fits)
       ∙ ap Some (get_or-map name_bytes (vec_items t.inputs) i n (name_bytes n) fits ∙ ap name_bytes (sym e)))
 
-  pub gate_name_at : (g : code.Gate) (o : Option (MutBor Name)) → vec_len t.inputs ≤ i → i - vec_len t.inputs < length (vec_items t.gates)
+  pub gate_name_at : (g : code.Gate) (o : Option (Bor Name)) → vec_len t.inputs ≤ i → i - vec_len t.inputs < length (vec_items t.gates)
       → g ≡ get_or (vec_items t.gates) (i - vec_len t.inputs) g → option_map (λ x. x.now) o ≡ g.name
-      → option_map (λ (n : MutBor Name). name_bytes n.now) o ≡ get_or (names (tables_model t)) i None
+      → option_map (λ (n : Bor Name). name_bytes n.now) o ≡ get_or (names (tables_model t)) i None
   gate_name_at g o h l e k =
       let at : length (map name_bytes (vec_items t.inputs)) ≡ vec_len t.inputs = length-map (vec_items t.inputs) name_bytes ∙ sym t.inputs.ok.0 in
       let fits : i - length (map name_bytes (vec_items t.inputs)) < length (map gate_model (vec_items t.gates)) = rw at (simp length-map l) in
