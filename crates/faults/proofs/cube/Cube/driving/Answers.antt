@@ -5,9 +5,9 @@ use Rattle.faults.proofs.cube.Cube.driving.Goals.{then-level, else-level}
 
 pub invariant_of-result : goal.invariant_of-result
 invariant_of-result c =
-    let self = c.args.self in (
-      within_and _ _
+    let self = c.args.self in
+    record {
+      within = within_and _ _
           (within_or self.driven self.level _ _ (within_bits self.driven self.level self.within)
-          (within_place _ c.if-level.raised (elim c.if-level.branch [ then-level w ↦ inl w.raised-is | else-level w ↦ inr w.raised-is ]))),
-      tt,
-    )
+          (within_place _ c.if-level.raised (elim c.if-level.branch [ then-level w ↦ inl w.raised-is | else-level w ↦ inr w.raised-is ])));
+    }

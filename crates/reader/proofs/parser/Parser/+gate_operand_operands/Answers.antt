@@ -51,11 +51,11 @@ pub operands-returns-in_err-line : goal.operands-returns-in_err-line
 operands-returns-in_err-line t c =
     let carried = err_from_is_err_and c.from_residual.result c.from_residual.ensures.1 in
     let told = c.in_err-line.ensures in
-    let taken = c.next_token.ensures in
+    let taken = c.next-token.ensures in
     record {
       leads = λ name pending room.
           leads_error _ _ _ _ _ carried.1 carried.2
-          (refuses_from _ _ _ (c.operands.invariant.0 name pending room ∙ stepped (operand name (record { op = c.args.op; operands = vec_items c.operands.lines }) pending) c.operands.self c.next_token.new.self (lexeme c.next_token.result) taken.taken taken.same ∙ operand_onward name (record { op = c.args.op; operands = vec_items c.operands.lines }) pending (so_far c.next_token.new.self) (lexeme c.next_token.result) (ahead c.next_token.new.self))
+          (refuses_from _ _ _ (c.operands.invariant.0 name pending room ∙ stepped (operand name (record { op = c.args.op; operands = vec_items c.operands.lines }) pending) c.operands.self c.next-token.new.self (lexeme c.next-token.result) taken.taken taken.same ∙ operand_onward name (record { op = c.args.op; operands = vec_items c.operands.lines }) pending (so_far c.next-token.new.self) (lexeme c.next-token.result) (ahead c.next-token.new.self))
           (told.leads name (record { op = c.args.op; operands = vec_items c.operands.lines }) pending room (sym (ap (λ (m : ℕ). leb m c.len.result) c.most.ensures ∙ ap (leb (most_operands c.args.op)) (c.len.ensures ∙ c.operands.lines.ok.0)))));
       fewer = omega (arith, told.fewer, taken.fewer, c.operands.invariant.1);
     }

@@ -9,7 +9,10 @@ use Rattle.reader.proofs.Steps.{resumed_at, gate_pushed, gate_complete}
 use Rattle.reader.proofs.parser.Parser.close_gate.Goals as goal
 
 pub invariant_of-self : goal.invariant_of-self
-invariant_of-self c = (c.args.self.now.inputs, (omega (arith, c.push.ensures.upper-bound, c.line_count-line.ensures, lines_count c.args.self.now.tables), tt))
+invariant_of-self c = record {
+  inputs = c.args.self.now.inputs;
+  gates = omega (arith, c.push.ensures.upper_bound, c.line_count-line.ensures, lines_count c.args.self.now.tables);
+}
 
 pub returns : goal.returns
 returns c =

@@ -9,8 +9,8 @@ use Rattle.reader.specs.Parsing.{so_far, ahead}
 use Rattle.reader.proofs.Steps.{refuses_as, resumed_at, input_limit, input_added, many_inputs, few_inputs, input_pushed}
 use Rattle.reader.proofs.parser.Parser.input_name.Goals as goal
 
-pub returns-then-len-ge-MOST-NAMES : goal.returns-then-len-ge-MOST-NAMES
-returns-then-len-ge-MOST-NAMES c =
+pub returns-then-len-ge-MOST_NAMES : goal.returns-then-len-ge-MOST_NAMES
+returns-then-len-ge-MOST_NAMES c =
     let p = c.args.self.now in
     let told = c.in_ok-word.ensures in
     record {

@@ -9,7 +9,7 @@ use Rattle.reader.proofs.parser.Parser.input_names.Goals as goal
 
 pub returns-then-is_empty : goal.returns-then-is_empty
 returns-then-is_empty c =
-    let q = c.next_token.new.self in
+    let q = c.next-token.new.self in
     let told = c.in-Closing.ensures in
     record {
       leads =
@@ -20,7 +20,7 @@ returns-then-is_empty c =
 
 pub returns-in-Closing : goal.returns-in-Closing
 returns-in-Closing c =
-    let q = c.next_token.new.self in
+    let q = c.next-token.new.self in
     let told = c.in-Closing.ensures in
     record {
       leads = c.names.invariant.0 ∙ stepped_at input_name c.names.self q (Closing c.in-Closing.place) (Closing c.in-Closing.place) told.taken told.same refl ∙ inputs_closed q c.in-Closing.place false c.if-is_empty.ensures;
