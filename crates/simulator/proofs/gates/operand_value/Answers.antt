@@ -4,8 +4,8 @@ use Rattle.simulator.specs.Lines.{at_pin, line_value}
 use Rattle.simulator.proofs.Places.{below_at, read_line}
 use Rattle.simulator.proofs.gates.operand_value.Goals as goal
 
-pub offset-bounds-row-operands : goal.offset-bounds-row-operands
-offset-bounds-row-operands g c = omega (arith, below_at (length c.args.row.now) c.args.operands.now c.args.index 0 c.requires.within c.requires.below)
+pub offset_bounds-row-operands : goal.offset_bounds-row-operands
+offset_bounds-row-operands g c = omega (arith, below_at (length c.args.row.now) c.args.operands.now c.args.index 0 c.requires.within c.requires.below)
 
 pub bounds-row-operands : goal.bounds-row-operands
 bounds-row-operands g c = below_at (length c.args.row.now) c.args.operands.now c.args.index 0 c.requires.within c.requires.below

@@ -3,8 +3,8 @@ use Rattle.simulator.proofs.Places.{below_at, read_line}
 use Rattle.simulator.proofs.Judging.{judge_first, judge_shows, judge_more, judge_end}
 use Rattle.simulator.proofs.simulation.judge.Goals as goal
 
-pub offset-bounds-row-output : goal.offset-bounds-row-output
-offset-bounds-row-output g c = omega (arith, below_at (length c.args.row.now) c.args.outputs.now c.loop-output.output-index 0 c.loop-output-test.true c.requires)
+pub offset_bounds-row-output : goal.offset_bounds-row-output
+offset_bounds-row-output g c = omega (arith, below_at (length c.args.row.now) c.args.outputs.now c.loop-output.output-index 0 c.loop-output-test.true c.requires)
 
 pub bounds-row-output : goal.bounds-row-output
 bounds-row-output g c = below_at (length c.args.row.now) c.args.outputs.now c.loop-output.output-index 0 c.loop-output-test.true c.requires

@@ -17,7 +17,7 @@ returns-then-count-gt0 c =
       leads =
           stepped_at (gate_line_close (name_bytes c.args.name)) p q (lexeme c.next-token.result) (Closing n) told.taken told.same c.in_ok-expect_closing.ensures
           ∙ ap (λ (gates : List Gate). run line_end (record { inputs = (so_far q).inputs; gates = gates; outputs = (so_far q).outputs }) (ahead q))
-          (gate_renamed q.tables _ c.args.name (c.len-count.result - 1) c.index-mut.result.now _ (omega arith) c.index-mut.ensures.value refl refl);
+          (gate_renamed q.tables _ c.args.name (c.len-count.result - 1) c.index_mut.result.now _ (omega arith) c.index_mut.ensures.value refl refl);
       fewer = told.fewer;
     }
 
