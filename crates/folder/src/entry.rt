@@ -24,6 +24,17 @@ impl Entry {
         }
     }
 
+    // The entry in another state.
+    pub(crate) fn in_state(self, state: State) -> Entry
+        ensures fault { result.fault ≡ self.fault }
+        ensures state { result.state ≡ state }
+    {
+        Entry {
+            fault: self.fault,
+            state,
+        }
+    }
+
     pub fn fault(&self) -> Fault
         ensures { result ≡ self.now.fault }
     {

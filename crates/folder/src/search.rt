@@ -1,6 +1,7 @@
 // Searching an entry: the visit for its fault, and the answer filed.
-ghost use Rattle.std.specs.Prelude.{◌≡◌, ◌<◌, length, None, vec_len, MatchResult, slice_set};
+ghost use Rattle.std.specs.Prelude.{◌≡◌, ◌^◌, ◌<◌, length, None, vec_len, MatchResult, slice_set};
 ghost use Rattle.std.specs.Result.{result_map_both};
+ghost use Rattle.visit.specs.Visiting.{answer_tries};
 ghost use Rattle.visit.specs.Visits.{answer_model};
 ghost use Rattle.folder.specs.Entries.{state_model};
 ghost use Rattle.folder.specs.Folders.{folder_model};
@@ -16,14 +17,23 @@ use values::kind::ValueKind;
 use visit::{Answer, visit};
 
 impl State {
-    // The state that keeps the answer of a visit.
-    pub fn filed(answer: Answer) -> State
+    // The state that keeps the answer of a visit, which never makes more tries than a budget may allow.
+    fn filed(answer: Answer) -> State
+        requires { answer_tries (answer_model answer) < 2 ^ 32 }
         ensures { state_model result ≡ filed (answer_model answer) }
     {
         match answer {
-            Answer::Fewest { cube, tries } => State::Fewest { cube, tries },
-            Answer::Redundant { tries } => State::Redundant { tries },
-            Answer::Spent { best, tries } => State::Spent { cube: best, tries },
+            Answer::Fewest { cube, tries } => State::Fewest {
+                cube,
+                tries: tries as u32,
+            },
+            Answer::Redundant { tries } => State::Redundant {
+                tries: tries as u32,
+            },
+            Answer::Spent { best, tries } => State::Spent {
+                cube: best,
+                tries: tries as u32,
+            },
         }
     }
 }

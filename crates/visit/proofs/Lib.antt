@@ -1,4 +1,5 @@
 pub mod Words
+pub mod Counting
 pub mod Cubes
 pub mod Steps
 pub mod Finding

@@ -62,6 +62,12 @@ pub data Answer : Type 0 where
   Redundant : ℕ → Answer
   Spent : Option Cube → ℕ → Answer
 
+-- the tries that an answer reports
+abbrev pub answer_tries : Answer → ℕ
+answer_tries (Fewest q tries) = tries
+answer_tries (Redundant tries) = tries
+answer_tries (Spent best tries) = tries
+
 abbrev pub answered : Bool → Option Cube → ℕ → Answer
 answered true best tries = Spent best tries
 answered false None tries = Redundant tries

@@ -1,11 +1,22 @@
-use Rattle.std.proofs.Common.{◌≡◌, length, vec_items, sym, refl, ap, ◌∙◌}
+use Rattle.std.proofs.Common.{◌≡◌, length, vec_items, sym, refl, ap, ◌∙◌, arith}
 use Rattle.std.proofs.lemmas.Result.{err_from_is_err_and}
 use Rattle.visit.specs.Visits.{answer_model}
+use Rattle.visit.proofs.Counting.{granted_within}
 use Rattle.folder.specs.Entries.{entry_model, state_model}
 use Rattle.folder.specs.Folders.{folder_model}
 use Rattle.folder.proofs.Refusing.{then_refused, then_granted}
-use Rattle.folder.proofs.Filing.{search_refused, search_filed}
+use Rattle.folder.proofs.Filing.{search_refused, search_filed, allowed_small}
 use Rattle.folder.proofs.folder.Folder.search.Goals as goal
+
+-- the answer makes no more tries than the budget, which is at most 1,000,000
+pub filed-requires : goal.filed-requires
+filed-requires g c =
+    let f = folder_model c.args.self.now in
+    omega (
+      arith,
+      granted_within g.V.ValueKind.kind f.circuit c.fault.result c.args.budget (length c.args.row.now) (answer_model c.in_ok-answer.answer) c.in_ok-answer.ensures.visits.answer,
+      allowed_small (entry_model c.in_ok-entry.entry).state c.args.budget c.in_ok-allow_search.ensures,
+    )
 
 pub returns-in_err-entry : goal.returns-in_err-entry
 returns-in_err-entry g c =
