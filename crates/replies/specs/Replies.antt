@@ -1,6 +1,6 @@
 -- How a reply of the code is written.
 use Rattle.std.specs.Prelude.{ℕ, List, string_bytes}
-use Rattle.std.specs.Borrow.{MutBor}
+use Rattle.std.specs.Borrow.{Bor}
 use Rattle.std.specs.Option.{option_map}
 use Rattle.circuit.specs.declared.name.Name.{Name}
 use Rattle.circuit.specs.Tables.{name_bytes}
@@ -20,5 +20,5 @@ reply_text (Refused cause) = refused_line cause
 -- how the line of an entry, as the code has it, is written
 abbrev pub entry_line_text : EntryLine → List ℕ
 entry_line_text t =
-    fields_line t.number (option_map (λ (n : MutBor Name). name_bytes n.now) t.name.name) t.pin t.level.level
+    fields_line t.number (option_map (λ (n : Bor Name). name_bytes n.now) t.name.name) t.pin t.level.level
     (state_model t.state.state) (option_map cube_model t.cube.cube) t.cube.inputs t.count
