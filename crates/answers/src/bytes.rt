@@ -34,12 +34,12 @@ fn every_byte(rt: HostRuntime) -> Result<(), Fail> {
     let heap = rt.alloc();
     for byte in 0..=255u8 {
         let (number, place) = alone(byte);
-        expect_refused(&rt, heap, &[byte], number, place).note(byte)?;
+        expect_refused(&rt, heap, &[byte], number, place)?;
         let (number, place) = inside_a_name(byte);
         let text = [
             b'(', b'i', b'n', b'p', b'u', b't', b's', b' ', b'a', byte, b'b', b')',
         ];
-        expect_refused(&rt, heap, &text, number, place).note(byte)?;
+        expect_refused(&rt, heap, &text, number, place)?;
     }
     Ok(())
 }

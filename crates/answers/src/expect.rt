@@ -44,6 +44,12 @@ fn layer_of(number: u8) -> u8 {
     }
 }
 
+// The bytes of a text that a message shows.
+fn start_of(text: &[u8]) -> &[u8] {
+    let (start, _) = text.split_at(text.len().min(60));
+    start
+}
+
 pub fn expect_blank(rt: &impl Abort, circuit: &Circuit) -> Result<(), Fail> {
     assert_eq!(rt; circuit.line_count(), 1);
     assert_eq!(rt; circuit.input_count(), 1);
@@ -61,13 +67,17 @@ pub fn expect_refused(
     place: usize,
 ) -> Result<(), Fail> {
     let mut circuit = other_circuit(heap)?;
+    let start = start_of(text);
     match read(heap, text, &mut circuit) {
-        Ok(_) => Err(Fail::new("granted")),
+        Ok(_) => {
+            assert!(rt; false, "granted: {start:?}");
+            Ok(())
+        },
         Err(refusal) => {
             let cause = refusal.cause().ok_or("no memory")?;
-            assert_eq!(rt; cause.number, number);
-            assert_eq!(rt; cause.place, place);
-            assert_eq!(rt; layer_number(cause.layer), layer_of(number));
+            assert_eq!(rt; cause.number, number, "{start:?}");
+            assert_eq!(rt; cause.place, place, "{start:?}");
+            assert_eq!(rt; layer_number(cause.layer), layer_of(number), "{start:?}");
             expect_blank(rt, &circuit)
         }
     }
@@ -75,7 +85,7 @@ pub fn expect_refused(
 
 pub fn expect_all_refused(rt: &impl Abort, heap: Global, cases: &[Refused]) -> Result<(), Fail> {
     for case in cases {
-        expect_refused(rt, heap, case.0.as_bytes(), case.1, case.2).note(case.0)?;
+        expect_refused(rt, heap, case.0.as_bytes(), case.1, case.2)?;
     }
     Ok(())
 }
@@ -89,12 +99,13 @@ pub fn expect_granted(
     place: usize,
 ) -> Result<(), Fail> {
     let mut circuit = other_circuit(heap)?;
+    let start = start_of(text);
     let rest = read(heap, text, &mut circuit)?;
-    assert_eq!(rt; rest.place, place);
+    assert_eq!(rt; rest.place, place, "{start:?}");
     assert!(rt; place <= text.len());
-    assert_eq!(rt; rest.bytes, &text[place..]);
-    assert_eq!(rt; circuit.input_count(), size.0);
-    assert_eq!(rt; circuit.line_count(), size.1);
-    assert_eq!(rt; circuit.outputs().len(), size.2);
+    assert_eq!(rt; rest.bytes, &text[place..], "{start:?}");
+    assert_eq!(rt; circuit.input_count(), size.0, "{start:?}");
+    assert_eq!(rt; circuit.line_count(), size.1, "{start:?}");
+    assert_eq!(rt; circuit.outputs().len(), size.2, "{start:?}");
     Ok(())
 }

@@ -246,7 +246,7 @@ fn drawing(heap: Global, circuit: &Circuit) -> Result<String, Fail> {
 fn circuits_line_by_line(rt: HostRuntime) -> Result<(), Fail> {
     let heap = rt.alloc();
     for case in &CIRCUITS {
-        expect_granted(&rt, heap, case.text.as_bytes(), case.size, case.place).note(case.text)?;
+        expect_granted(&rt, heap, case.text.as_bytes(), case.size, case.place)?;
         let mut circuit = Circuit::blank(heap)?;
         let rest = read(heap, case.text.as_bytes(), &mut circuit)?;
         assert_eq!(rt; rest.bytes, case.rest.as_bytes(), "{}", case.text);

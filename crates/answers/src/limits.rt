@@ -52,9 +52,7 @@ fn operands_of_each_operator(rt: HostRuntime) -> Result<(), Fail> {
     let heap = rt.alloc();
     for operator in &OPERATORS {
         for count in 0..11 {
-            expect_count(&rt, heap, *operator, count)
-                .note(operator.0)
-                .note(count)?;
+            expect_count(&rt, heap, *operator, count)?;
         }
     }
     Ok(())
@@ -73,7 +71,7 @@ fn expect_endings(
     for ending in endings {
         let mut text = String::from_str(heap, front)?;
         text.push_str(ending.0)?;
-        expect_refused(rt, heap, text.as_bytes(), ending.1, ending.2).note(ending.0)?;
+        expect_refused(rt, heap, text.as_bytes(), ending.1, ending.2)?;
     }
     Ok(())
 }
@@ -88,7 +86,7 @@ fn expect_ending_granted(
 ) -> Result<(), Fail> {
     let mut text = String::from_str(heap, front)?;
     text.push_str(ending)?;
-    expect_granted(rt, heap, text.as_bytes(), size, place).note(ending)
+    expect_granted(rt, heap, text.as_bytes(), size, place)
 }
 
 // The names n0 to n63, each behind a space: ten of 3 bytes with the space and 54 of 4, so 246 bytes.
@@ -236,9 +234,7 @@ fn long_texts(rt: HostRuntime) -> Result<(), Fail> {
         let Filled(front, filler, length, number, place) = *case;
         let mut text = String::from_str(heap, front)?;
         fill(&rt, &mut text, filler, length)?;
-        expect_refused(&rt, heap, text.as_bytes(), number, place)
-            .note(front)
-            .note(filler)?;
+        expect_refused(&rt, heap, text.as_bytes(), number, place)?;
     }
     let size = Size(1, 1, 1);
     let mut text = String::from_str(heap, "(inputs a)\n(outputs a)\n")?;

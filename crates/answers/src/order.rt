@@ -74,9 +74,9 @@ fn expect_behind(
     assert!(rt; front.len() < 1000 && word.len() < 1000);
     let place = front.len() + 1;
     if number == 0 {
-        expect_refused(rt, heap, text.as_bytes(), 1, place + word.len() + 1).note(text.as_str())
+        expect_refused(rt, heap, text.as_bytes(), 1, place + word.len() + 1)
     } else {
-        expect_refused(rt, heap, text.as_bytes(), number, place).note(text.as_str())
+        expect_refused(rt, heap, text.as_bytes(), number, place)
     }
 }
 
@@ -89,7 +89,7 @@ fn each_word_at_each_point(rt: HostRuntime) -> Result<(), Fail> {
         expect_behind(&rt, heap, front, ")", closing)?;
         expect_behind(&rt, heap, front, "zz", word)?;
         expect_behind(&rt, heap, front, "\n", feed)?;
-        expect_refused(&rt, heap, front.as_bytes(), end, front.len()).note(front)?;
+        expect_refused(&rt, heap, front.as_bytes(), end, front.len())?;
         // a word of no right shape and a byte that no text may have, wherever they stand
         expect_behind(&rt, heap, front, "9", 2)?;
         expect_behind(&rt, heap, front, "zzzzzzzzz", 2)?;
