@@ -1,5 +1,5 @@
 -- The names of lines, by place, and one step of the search for a name.
-use Rattle.std.proofs.Common.{◌≡◌, ℕ, zero, suc, ◌+◌, ◌-◌, ◌<◌, ◌≤◌, Bool, true, false, cond, ◌⊎◌, List, [], ◌∷◌, ◌++◌, map, length, get_or, take, drop, Some, None, vec_items, vec_len, Option, sym, refl, ap, ◌∙◌, inl, inr, add-zero, zero-add, arith, Bor}
+use Rattle.std.proofs.Common.{◌≡◌, ℕ, suc, ◌+◌, ◌-◌, ◌<◌, ◌≤◌, Bool, true, false, cond, ◌⊎◌, List, map, length, get_or, drop, Some, None, vec_items, vec_len, Option, sym, refl, ap, ◌∙◌, inl, inr, add-zero, zero-add, arith, Bor}
 use mathlib.Core.Bool.{false≢true}
 use Rattle.std.proofs.lemmas.List.{drop_more, drop_all, get_or_append_left, get_or-append_right, get_or-map, get_or_past, length-map, length-append}
 use Rattle.std.proofs.lemmas.Bool.{cases_lt}

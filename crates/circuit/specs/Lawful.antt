@@ -1,5 +1,5 @@
 -- The rules that every circuit keeps.
-use Rattle.std.specs.Prelude.{ℕ, ◌+◌, Bool, true, false, not, ◌&&◌, ltb, List, [], ◌∷◌, ◌++◌, length, is_some, Some, None, Option, nat_eq, nat_le, nat_lt}
+use Rattle.std.specs.Prelude.{ℕ, ◌+◌, Bool, true, not, ◌&&◌, ltb, List, [], ◌∷◌, ◌++◌, length, is_some, Some, None, Option, nat_eq, nat_le, nat_lt}
 use Rattle.words.specs.Lists.{every, some}
 use Rattle.circuit.specs.Ops.{fewest_operands, most_operands}
 use Rattle.circuit.specs.Model.{Gate, Circuit, line_count, names, line_named}

@@ -1,5 +1,5 @@
 -- The levels that lie within the driven inputs, bit by bit.
-use Rattle.std.proofs.Common.{◌≡◌, ℕ, ◌+◌, ◌*◌, ◌/◌, ◌%◌, ◌^◌, ◌<◌, min, max, ◌⊎◌, sym, refl, ap, ◌∙◌, inl, inr, div-add-mod', div-one, arith}
+use Rattle.std.proofs.Common.{◌≡◌, ℕ, ◌+◌, ◌*◌, ◌/◌, ◌%◌, ◌^◌, min, max, ◌⊎◌, sym, refl, ap, ◌∙◌, inl, inr, div-add-mod', div-one, arith}
 use native.Mathlib.Nat.{min-zero, zero-div}
 use lib.Arith.{bin_ind}
 use lib.Bits.{bit_and, bit_or, and_step, or_step, and_shr, or_shr}

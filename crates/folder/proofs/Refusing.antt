@@ -1,5 +1,5 @@
 -- A call that goes on after a part of it was granted, or ends with that part's refusal.
-use Rattle.std.proofs.Common.{◌≡◌, Ok, Err, Result, sym, ap, ◌∙◌}
+use Rattle.std.proofs.Common.{◌≡◌, Ok, Err, Result, sym, ap}
 use Rattle.refusals.specs.declared.layers.FolderRefusal.{FolderRefusal}
 use Rattle.folder.specs.Transitions.{and_then}
 

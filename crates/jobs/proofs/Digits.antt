@@ -1,10 +1,10 @@
 -- The value of a number of at most seven digits.
-use Rattle.std.proofs.Common.{◌≡◌, ℕ, zero, suc, ◌+◌, ◌-◌, ◌*◌, ◌^◌, ◌<◌, ◌≤◌, Bool, true, false, ◌&&◌, leb, List, [], ◌∷◌, length, get_or, take, sym, refl, ap, ◌∙◌, pow-suc, arith}
+use Rattle.std.proofs.Common.{◌≡◌, ℕ, zero, suc, ◌+◌, ◌-◌, ◌*◌, ◌^◌, ◌<◌, ◌≤◌, true, ◌&&◌, leb, List, [], ◌∷◌, length, get_or, ap, ◌∙◌, pow-suc, arith}
 use native.Mathlib.Nat.{pow-le-pow_right}
 use Rattle.std.proofs.lemmas.Bool.{and_parts, leb-true}
 use Rattle.words.specs.Bytes.{digit}
 use Rattle.words.specs.Lists.{every}
-use Rattle.jobs.specs.Numbers.{no_needless_zero, number_shape, number_value}
+use Rattle.jobs.specs.Numbers.{no_needless_zero, number_shape}
 
 pub at_most_seven : (word : List ℕ) → number_shape word ≡ true → length word ≤ 7
 at_most_seven word h = leb-true (length word) 7 (and_parts (leb (length word) 7) (every digit word) (and_parts (no_needless_zero word) (leb (length word) 7 && every digit word) h).1).0

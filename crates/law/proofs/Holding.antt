@@ -1,5 +1,5 @@
 -- The law holds after every history.
-use Rattle.std.proofs.Common.{◌≡◌, ℕ, Bool, true, false, ◌&&◌, List, [], ◌∷◌, Some, None, Ok, Err, Option, Result, sym, refl, ap, ◌∙◌, subst, true≢false, arith}
+use Rattle.std.proofs.Common.{◌≡◌, ℕ, Bool, true, false, ◌&&◌, List, ◌∷◌, Some, None, Ok, Err, Result, sym, refl, ap, ◌∙◌, subst, true≢false, arith}
 use mathlib.Core.Bool.{false≢true}
 use Rattle.std.proofs.lemmas.Bool.{eq-eqb, ne_eqb}
 use Rattle.std.specs.List.{slice_get}
@@ -24,7 +24,7 @@ use Rattle.law.specs.declared.call.Call.{Call}
 use Rattle.law.specs.declared.call.Call.TheVariants.{Enter, Search, Cover}
 use Rattle.law.specs.Histories as histories
 use Rattle.law.specs.Histories.{Event, Outcome, Entered, Searched, defined, Step, Run, start, next}
-use Rattle.law.specs.Sound.{is_unspent_outcome, searches, is_unspent_search, SearchedUnspent, IsRedundant, Sound}
+use Rattle.law.specs.Sound.{is_unspent_outcome, searches, SearchedUnspent, IsRedundant, Sound}
 use Rattle.law.proofs.Granting.{ok_same, both_granted, named_granted, entered_granted, found_granted, allowed_unsettled, answered_is, fewest_state}
 use Rattle.law.proofs.Keeping.{Known, Kept, kept_first, kept_same, kept_entered, kept_filed, kept_covered}
 

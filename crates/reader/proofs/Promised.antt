@@ -1,12 +1,11 @@
 -- What a read by the definition says of what the text describes.
-use Rattle.std.proofs.Common.{◌≡◌, ℕ, List, Ok, Err, Result, sym, ◌∙◌, arith}
+use Rattle.std.proofs.Common.{◌≡◌, ℕ, List, Ok, Err, Result, arith}
 use Rattle.refusals.specs.declared.cause.Refusal.{Refusal}
 use Rattle.refusals.specs.declared.cause.Refusal.TheVariants as refusal
 use Rattle.circuit.specs.Model.{Circuit}
 use Rattle.reader.specs.declared.rest.Rest.{Rest}
-use Rattle.reader.specs.Describes.{Describes}
 use Rattle.reader.specs.Promises.{Reads, DescribesNone, Follows}
-use Rattle.reader.specs.Reading.{Outcome, Granted, Refused, reading}
+use Rattle.reader.specs.Reading.{Granted, Refused, reading}
 use Rattle.reader.proofs.DescribesComplete.{complete}
 use Rattle.reader.proofs.DescribesSound.{sound}
 

@@ -1,5 +1,5 @@
 -- Steps of the definition, at the words that the reader has tested.
-use Rattle.std.proofs.Common.{◌≡◌, ℕ, zero, suc, ◌+◌, ◌-◌, ◌<◌, ◌≤◌, Bool, true, false, cond, eqb, leb, List, [], ◌∷◌, ◌++◌, map, length, get_or, set, IfOk, Some, None, Ok, Err, vec_items, vec_len, Result, sym, refl, ap, ◌∙◌, arith}
+use Rattle.std.proofs.Common.{◌≡◌, ℕ, zero, suc, ◌+◌, ◌<◌, ◌≤◌, Bool, true, false, cond, eqb, leb, List, [], ◌∷◌, ◌++◌, map, length, get_or, set, IfOk, Some, Ok, Err, vec_items, vec_len, Result, sym, refl, ap, ◌∙◌, arith}
 use Rattle.std.proofs.lemmas.List.{map_push, map-set, get_or-map, length-map}
 use Rattle.std.proofs.lemmas.Bool.{le-leb, lt-leb, le-ltb}
 use Rattle.refusals.specs.declared.cause.Refusal.{Refusal}
@@ -13,8 +13,8 @@ use Rattle.circuit.specs.declared.gate.Gate as code
 use Rattle.circuit.specs.declared.tables.Tables.{Tables}
 use Rattle.circuit.specs.Model.{Circuit, Gate, line_count}
 use Rattle.circuit.specs.Tables.{name_bytes, gate_model, tables_model}
-use Rattle.circuit.proofs.Sizes.{inputs_count, outputs_count}
-use Rattle.reader.specs.Reading.{Due, inputs_line, input_name, line_end, operator, operand, Pending, full, too_few, closing_step, gate_made, made_gate, misplaced, Step, Go, Stop, Outcome, Refused, run, empty, reading, taken, limit_passed, with_input, with_gate, with_output, with_name, last_named, step}
+use Rattle.circuit.proofs.Sizes.{inputs_count}
+use Rattle.reader.specs.Reading.{Due, inputs_line, input_name, line_end, operator, operand, Pending, full, too_few, closing_step, gate_made, made_gate, misplaced, Step, Go, Stop, Outcome, Refused, run, empty, reading, taken, limit_passed, with_input, with_gate, last_named, step}
 use Rattle.reader.specs.declared.parser.Parser.{Parser}
 use Rattle.reader.specs.Parsing.{ahead, so_far, at, resumed, Refuses, Leads}
 

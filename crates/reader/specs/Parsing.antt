@@ -1,9 +1,8 @@
 -- How the parts of the reader follow the definition of reading.
-use Rattle.std.specs.Prelude.{◌≡◌, ℕ, Bool, true, false, cond, not, ◌&&◌, List, [], ◌∷◌, Result, MatchResult}
+use Rattle.std.specs.Prelude.{◌≡◌, Bool, false, cond, not, ◌&&◌, List, Result, MatchResult}
 use Rattle.refusals.specs.declared.cause.Refusal.{Refusal}
 use Rattle.refusals.specs.declared.cause.Refusal.TheVariants as refusal
-use Rattle.refusals.specs.declared.layers.TextRefusal.TheVariants.{ForbiddenByte, MalformedWord}
-use Rattle.refusals.specs.declared.layers.FormRefusal.TheVariants.{Misplaced}
+use Rattle.refusals.specs.declared.layers.TextRefusal.TheVariants.{MalformedWord}
 use Rattle.refusals.specs.declared.layers.CircuitRefusal.TheVariants.{NameTaken}
 use Rattle.words.specs.Left.{left}
 use Rattle.words.specs.Lexemes.{Lexeme, Opening, Closing, Word, LineEnd, TextEnd, Forbidden}

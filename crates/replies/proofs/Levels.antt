@@ -1,5 +1,5 @@
 -- The letters of a cube, one more at a time.
-use Rattle.std.proofs.Common.{◌≡◌, ℕ, zero, suc, ◌+◌, ◌/◌, ◌%◌, ◌^◌, ◌<◌, Bool, true, false, cond, eqb, List, [], ◌∷◌, ◌++◌, sym, refl, ap, ◌∙◌, zero-add, add-one, arith}
+use Rattle.std.proofs.Common.{◌≡◌, ℕ, zero, suc, ◌+◌, ◌/◌, ◌%◌, ◌^◌, ◌<◌, Bool, true, false, cond, eqb, List, [], ◌∷◌, ◌++◌, sym, ap, ◌∙◌, zero-add, add-one, arith}
 use lib.Utf8.{encode}
 use Rattle.std.proofs.lemmas.Str.Ascii.{encode_ascii}
 use Rattle.replies.specs.Texts.{level_letter, levels}

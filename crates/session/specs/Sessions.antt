@@ -1,10 +1,8 @@
 -- What a session answers to a job line, and what it holds afterwards.
-use Rattle.std.specs.Prelude.{◌≡◌, ℕ, ◌+◌, min, Bool, true, false, not, List, length, drop, is_some, is_ok, Some, None, Ok, Err, Option, Result, ◌==◌}
+use Rattle.std.specs.Prelude.{ℕ, ◌+◌, min, Bool, true, false, not, List, length, drop, is_some, is_ok, Some, None, Ok, Err, Option, Result, ◌==◌}
 use Rattle.std.specs.List.{prefix_len}
 use Rattle.refusals.specs.declared.cause.Cause.{Cause}
 use Rattle.refusals.specs.declared.cause.Layer.TheVariants as layer
-use Rattle.refusals.specs.declared.cause.Refusal.{Refusal}
-use Rattle.refusals.specs.declared.cause.Refusal.TheVariants as refusal
 use Rattle.refusals.specs.declared.layers.FolderRefusal.{FolderRefusal}
 use Rattle.refusals.specs.Causes.{cause_of}
 use Rattle.refusals.specs.Numbers.{folder_number}

@@ -4,7 +4,6 @@ use Rattle.std.proofs.lemmas.List.{at_drop_more, at_drop_all, take_more_set, map
 use Rattle.values.specs.Pairs.{Pairs}
 use Rattle.values.specs.Values.{Values}
 use Rattle.circuit.specs.declared.gate.Gate as code
-use Rattle.circuit.specs.Model.{Gate}
 use Rattle.circuit.specs.Tables.{gate_model}
 use Rattle.faults.specs.declared.fault.Fault.{Fault}
 use Rattle.simulator.specs.Lines.{at_pin, inputs_row, gate_value, gates_after}

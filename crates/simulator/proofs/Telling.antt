@@ -10,7 +10,7 @@ use Rattle.circuit.specs.Model.{Circuit}
 use Rattle.faults.specs.declared.fault.Fault.{Fault}
 use Rattle.faults.specs.Cubes.{Cube}
 use Rattle.simulator.specs.declared.verdict.Verdict.TheVariants.{Shows, Still, Unsure}
-use Rattle.simulator.specs.Detection.{bit, input_value, simulated, set_of, detected, quiet, verdict, pair_under, detects, Fills, DrivesAll}
+use Rattle.simulator.specs.Detection.{bit, input_value, simulated, set_of, detected, quiet, verdict, pair_under, Fills, DrivesAll}
 use Rattle.simulator.specs.Laws.{KeepsVectors, ShownAreTests, QuietDetectNothing, VectorsAreShown, Telling, Tells}
 use Rattle.simulator.proofs.Relating.{KeepsGates, KeepsPins, stuck_keeps, line_keeps}
 use Rattle.simulator.proofs.Readings.{vector, pair_is}

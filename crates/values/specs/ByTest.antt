@@ -1,7 +1,7 @@
 -- The laws of a kind over listed sets, and that its answers are the smallest, from one test that antt computes:
 -- it goes through each listed set, or each two of them. Assumes nothing.
 use Rattle.std.specs.Prelude.{◌≡◌, Bool, true, false, ◌&&◌, List}
-use Rattle.values.specs.Pairs.{Pair, Pairs, ◌∈◌, only, Single}
+use Rattle.values.specs.Pairs.{Pair, Pairs, only, Single}
 use Rattle.values.specs.Values.{Gates, pairs}
 use Rattle.values.specs.Kind.{Kind, Lawful, LawfulGates, LawfulStick}
 use Rattle.values.specs.Made.{made_by_one, made_by_two, Among, Smallest, SmallestGates, SmallestAnswers, implies, holds_all}

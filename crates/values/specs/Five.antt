@@ -1,5 +1,5 @@
 -- The kind five: each of the four pairs alone, and all four pairs.
-use Rattle.std.specs.Prelude.{Bool, true, false, List, [], ◌∷◌}
+use Rattle.std.specs.Prelude.{true, false, List, [], ◌∷◌}
 use Rattle.values.specs.Pairs.{Pairs, only, every_pair}
 use Rattle.values.specs.Kind.{Kind}
 use Rattle.values.specs.Made.{closing, SmallestAnswers}

@@ -1,7 +1,7 @@
 -- The pairs that operands can make, and the smallest of some sets that holds them.
-use Rattle.std.specs.Prelude.{◌≡◌, Bool, true, false, not, ◌&&◌, ◌||◌, cond, List, [], ◌∷◌, ◌⊎◌, ◌↔◌}
+use Rattle.std.specs.Prelude.{◌≡◌, Bool, true, false, ◌&&◌, ◌||◌, cond, List, [], ◌∷◌, ◌⊎◌, ◌↔◌}
 use Rattle.values.specs.Pairs.{Pair, Pairs, pair, has, ◌∈◌, ◌⊆◌, only, no_pair, every_pair}
-use Rattle.values.specs.Values.{Gates, Values, pairs}
+use Rattle.values.specs.Values.{Gates, pairs}
 use Rattle.values.specs.Kind.{Kind}
 
 -- the members of either set

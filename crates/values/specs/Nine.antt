@@ -4,7 +4,6 @@ use Rattle.values.specs.Pairs.{Pairs}
 use Rattle.values.specs.Kind.{Kind}
 use Rattle.values.specs.Made.{SmallestAnswers}
 use Rattle.values.specs.Halves.{of_halves, by_halves}
-use Rattle.values.specs.declared.half.Half.{Half}
 use Rattle.values.specs.declared.half.Half.TheVariants.{Zero, One, Unknown}
 
 abbrev pub nine : Kind

@@ -1,5 +1,5 @@
 -- Nine passes the tests. Assumes nothing.
-use Rattle.std.specs.Prelude.{◌≡◌, refl}
+use Rattle.std.specs.Prelude.{refl}
 use Rattle.values.specs.Kind.{Lawful}
 use Rattle.values.specs.Made.{Among}
 use Rattle.values.specs.Nine.{nine, nine_sets, NineSmallest}

@@ -1,5 +1,5 @@
 -- Seven passes the tests. Assumes nothing.
-use Rattle.std.specs.Prelude.{◌≡◌, refl}
+use Rattle.std.specs.Prelude.{refl}
 use Rattle.values.specs.Kind.{Lawful}
 use Rattle.values.specs.Made.{Among}
 use Rattle.values.specs.Seven.{seven, seven_sets, SevenSmallest}

@@ -1,9 +1,8 @@
 -- A visit makes no more tries than its budget.
-use Rattle.std.proofs.Common.{◌≡◌, ℕ, zero, suc, ◌+◌, ◌-◌, ◌<◌, ◌≤◌, Bool, true, false, cond, not, ◌&&◌, length, Some, None, Ok, Err, Option, Result, refl, sym, ◌∙◌, subst, ap, arith}
+use Rattle.std.proofs.Common.{◌≡◌, ℕ, zero, suc, ◌-◌, ◌<◌, ◌≤◌, Bool, true, false, cond, not, ◌&&◌, length, Some, None, Ok, Err, Option, refl, sym, subst, arith}
 use Rattle.std.specs.Prelude.{nat_lt}
 use Rattle.std.proofs.lemmas.Bool.{ltb-true}
 use Rattle.std.proofs.lemmas.Result.{IfOk-at_ok}
-use Rattle.refusals.specs.declared.layers.FolderRefusal.{FolderRefusal}
 use Rattle.refusals.specs.declared.layers.FolderRefusal.TheVariants.{RowTooShort}
 use Rattle.values.specs.Kind.{Kind}
 use Rattle.circuit.specs.Model.{Circuit, line_count}
@@ -12,7 +11,7 @@ use Rattle.faults.specs.Cubes.{Cube, nothing_driven}
 use Rattle.simulator.specs.declared.verdict.Verdict.{Verdict}
 use Rattle.simulator.specs.declared.verdict.Verdict.TheVariants.{Shows, Still, Unsure}
 use Rattle.simulator.specs.Detection.{verdict}
-use Rattle.visit.specs.Visiting.{Progress, Answer, Fewest, Redundant, Spent, drive, tried, due, met, below, visited, at_start, fewer, answer, answered, answer_tries}
+use Rattle.visit.specs.Visiting.{Progress, Answer, drive, tried, due, met, below, visited, at_start, fewer, answer, answered, answer_tries}
 use Rattle.visit.specs.Visits.{answer_in}
 
 module _ (judge : Cube → Verdict) (budget inputs : ℕ) where

@@ -1,5 +1,5 @@
 -- Driving one more input, above those that a cube drives.
-use Rattle.std.proofs.Common.{◌≡◌, ℕ, ◌+◌, ◌*◌, ◌/◌, ◌%◌, ◌^◌, ◌<◌, ◌≤◌, Bool, true, false, cond, ◌&&◌, eqb, ltb, sym, refl, ap, ◌∙◌, add-zero, add_comm, one-mul, pow-suc, zero-mul, arith}
+use Rattle.std.proofs.Common.{◌≡◌, ℕ, ◌+◌, ◌*◌, ◌/◌, ◌%◌, ◌^◌, ◌<◌, Bool, true, false, cond, ◌&&◌, eqb, sym, refl, ap, ◌∙◌, add-zero, add_comm, one-mul, pow-suc, zero-mul, arith}
 use native.Mathlib.Nat.{div-eq_of_lt}
 use lib.Bits.{bit_and, bit_or, or_shifted_r, or_zero_r, and_le_r}
 use Rattle.std.proofs.lemmas.Bool.{lt-ltb}

@@ -1,15 +1,15 @@
 -- Lines carry what the circuit's own inputs give them, and nothing else.
-use Rattle.std.proofs.Common.{◌≡◌, ℕ, zero, suc, ◌%◌, ◌^◌, ◌<◌, Bool, cond, List, [], ◌∷◌, ◌++◌, length, Option, sym, refl, ap, ◌∙◌, arith}
+use Rattle.std.proofs.Common.{◌≡◌, ℕ, zero, suc, ◌%◌, ◌^◌, ◌<◌, Bool, cond, List, [], ◌∷◌, ◌++◌, length, Option, refl, ap, ◌∙◌, arith}
 use Rattle.values.specs.Pairs.{Pairs}
 use Rattle.values.specs.Values.{Values}
 use Rattle.values.specs.Kind.{Kind}
 use Rattle.circuit.specs.Model.{Circuit}
 use Rattle.faults.specs.declared.fault.Fault.{Fault}
-use Rattle.faults.specs.Cubes.{Cube, Within}
+use Rattle.faults.specs.Cubes.{Cube}
 use Rattle.simulator.specs.Lines.{at_pin, inputs_row, gates_after}
 use Rattle.simulator.specs.Detection.{bit, input_value, simulated}
 use Rattle.visit.proofs.Finding.{cut}
-use Rattle.visit.proofs.Words.{bit_cut, cut_bit, past_bit}
+use Rattle.visit.proofs.Words.{bit_cut}
 
 inputs_same : {V : Type 0} (A : Values V) (f : Option Fault) (x y : ℕ → V) (k : ℕ) → ((i : ℕ) → i < k → x i ≡ y i) → inputs_row A f x k ≡ inputs_row A f y k
 inputs_same A f x y zero h = refl

@@ -10,10 +10,10 @@ use Rattle.faults.specs.declared.fault.Fault.{Fault}
 use Rattle.faults.specs.Cubes.{Cube, Within}
 use Rattle.simulator.specs.declared.verdict.Verdict.{Verdict}
 use Rattle.simulator.specs.declared.verdict.Verdict.TheVariants.{Shows, Still, Unsure}
-use Rattle.simulator.specs.Detection.{bit, some_shows, verdict, detected, quiet, detects, Fills}
+use Rattle.simulator.specs.Detection.{some_shows, verdict, detected, quiet, detects, Fills}
 use Rattle.simulator.proofs.Telling.{shown_are_tests, quiet_detect_nothing, vectors_are_shown}
 use Rattle.visit.specs.Visiting.{Progress, visited, answered, answer}
-use Rattle.visit.specs.Meaning.{Test, Undetectable, Unbeaten, Means}
+use Rattle.visit.specs.Meaning.{Test, Means}
 use Rattle.visit.proofs.Words.{cut_bit, past_bit, bit_cut, bit_cut_set, ones_bit, bit_ones_set}
 use Rattle.visit.proofs.Finding.{AtMost, cut, cut_ones, visit_finds}
 use Rattle.visit.proofs.Holding.{Shape, Good, visit_good}

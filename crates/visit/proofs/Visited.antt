@@ -1,8 +1,7 @@
 -- What the whole visit comes to, as the code makes it.
-use Rattle.std.proofs.Common.{◌≡◌, ℕ, ◌-◌, ◌≤◌, Bool, cond, ltb, length, Some, Ok, Err, Option, Result, sym, refl, ap, ◌∙◌, subst}
+use Rattle.std.proofs.Common.{◌≡◌, ℕ, ◌-◌, ◌≤◌, Bool, cond, length, Some, Ok, Err, Option, sym, ap, ◌∙◌, subst}
 use native.Mathlib.Nat.{sub-zero}
 use Rattle.std.proofs.lemmas.Bool.{le-ltb}
-use Rattle.refusals.specs.declared.layers.FolderRefusal.{FolderRefusal}
 use Rattle.refusals.specs.declared.layers.FolderRefusal.TheVariants.{RowTooShort}
 use Rattle.values.specs.Pairs.{Pairs}
 use Rattle.values.specs.Kind.{Kind, Lawful}

@@ -1,5 +1,5 @@
 -- Answers that are known beforehand, of values and of visits, over the definitions that the contracts use.
-use Rattle.std.specs.Prelude.{◌≡◌, ℕ, Bool, true, false, List, [], ◌∷◌, Some, None, codes}
+use Rattle.std.specs.Prelude.{◌≡◌, ℕ, true, false, List, [], ◌∷◌, Some, None, codes}
 use Rattle.values.specs.Pairs.{only, every_pair}
 use Rattle.values.specs.Made.{◌∪◌}
 use Rattle.values.specs.Kind.{Kind}

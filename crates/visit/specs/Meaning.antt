@@ -1,5 +1,5 @@
 -- What an answer says of vectors and cubes. Nothing here speaks of how it was found.
-use Rattle.std.specs.Prelude.{◌≡◌, ℕ, ◌≤◌, true, false, Some, None, Option, count_ones}
+use Rattle.std.specs.Prelude.{◌≡◌, ℕ, ◌≤◌, true, false, Some, None, count_ones}
 use Rattle.values.specs.Kind.{Kind}
 use Rattle.circuit.specs.Model.{Circuit}
 use Rattle.faults.specs.declared.fault.Fault.{Fault}

@@ -1,5 +1,5 @@
 -- What a call that visits gives.
-use Rattle.std.specs.Prelude.{◌≡◌, ℕ, cond, List, length, IfOk, None, Ok, Err, Option, Result, nat_lt}
+use Rattle.std.specs.Prelude.{◌≡◌, ℕ, cond, IfOk, Ok, Err, Result, nat_lt}
 use Rattle.std.specs.Option as options
 use Rattle.std.specs.Result.{result_map_both}
 use Rattle.refusals.specs.declared.layers.FolderRefusal.{FolderRefusal}
@@ -7,7 +7,7 @@ use Rattle.refusals.specs.declared.layers.FolderRefusal.TheVariants.{RowTooShort
 use Rattle.values.specs.Kind.{Kind}
 use Rattle.circuit.specs.Model.{Circuit, line_count}
 use Rattle.faults.specs.declared.fault.Fault.{Fault}
-use Rattle.faults.specs.Cubes.{Cube, cube_model}
+use Rattle.faults.specs.Cubes.{cube_model}
 use Rattle.visit.specs.declared.answer.Answer as code
 use Rattle.visit.specs.declared.answer.Answer.TheVariants as code-answer
 use Rattle.visit.specs.declared.progress.Progress as code-progress

@@ -1,6 +1,5 @@
 -- The lexemes of a text after a space, and of a run of letters and digits.
-use Rattle.std.proofs.Common.{◌≡◌, ℕ, zero, suc, ◌+◌, ◌-◌, ◌<◌, ◌≤◌, Bool, true, false, cond, ◌||◌, eqb, ◌⊎◌, List, [], ◌∷◌, length, get_or, take, drop, sym, refl, ap, ◌∙◌, subst, inl, inr, true≢false, add-zero, add_assoc, zero-add, arith}
-use mathlib.Core.Bool.{false≢true}
+use Rattle.std.proofs.Common.{◌≡◌, ℕ, zero, suc, ◌+◌, ◌-◌, ◌<◌, ◌≤◌, Bool, true, false, cond, eqb, ◌⊎◌, List, [], ◌∷◌, length, get_or, take, drop, sym, refl, ap, ◌∙◌, subst, inl, inr, arith}
 use Rattle.std.specs.List.{prefix_len}
 use Rattle.std.proofs.lemmas.List.{drop_more, drop-drop, length-take-le}
 use Rattle.std.proofs.lemmas.List.Sums.{prefix_len-drop_yes, prefix_len-le-length}
@@ -8,7 +7,7 @@ use Rattle.std.proofs.lemmas.Bool.{eq-eqb, ne_eqb, cases_Bool}
 use Rattle.words.specs.declared.bytes.ByteClass.{ByteClass}
 use Rattle.words.specs.declared.bytes.ByteClass.TheVariants as class_of
 use Rattle.words.specs.Bytes.{class, in_word}
-use Rattle.words.specs.Lexemes.{Lexeme, Opening, Closing, Word, LineEnd, TextEnd, Forbidden, joined, prefixed, begun, lexemes, lexemes_from}
+use Rattle.words.specs.Lexemes.{Lexeme, Opening, Closing, Word, LineEnd, TextEnd, Forbidden, prefixed, begun, lexemes, lexemes_from}
 
 -- one byte on, by its class
 pub byte_step : (text : List ℕ) (n : ℕ) (c : ByteClass) → n < length text → class (get_or text n 0) ≡ c

@@ -1,4 +1,4 @@
-use Rattle.std.proofs.Common.{◌≡◌, ℕ, ◌+◌, List, [], map, length, take, drop}
+use Rattle.std.proofs.Common.{◌≡◌, ◌+◌, List, [], map, length, take, drop}
 use Rattle.circuit.specs.Model.{Gate}
 use Rattle.circuit.specs.Lawful.{gate_fits, each_after}
 use Rattle.circuit.specs.Tables.{gate_model}

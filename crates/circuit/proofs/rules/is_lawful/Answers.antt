@@ -1,4 +1,4 @@
-use Rattle.std.proofs.Common.{◌≡◌, ℕ, ◌+◌, List, [], map, length, sym, ap, ◌∙◌, arith}
+use Rattle.std.proofs.Common.{◌+◌, List, [], map, length, sym, ap, ◌∙◌, arith}
 use Rattle.circuit.specs.declared.gate.Gate as code
 use Rattle.circuit.specs.Model.{Gate}
 use Rattle.circuit.specs.Lawful.{each_after, gate_fits, new_output}

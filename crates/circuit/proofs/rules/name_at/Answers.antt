@@ -1,4 +1,4 @@
-use Rattle.std.proofs.Common.{◌≡◌, ℕ, ◌-◌, ◌<◌, ◌≤◌, length, get_or, vec_items, vec_len, sym, ap, ◌∙◌, subst, arith}
+use Rattle.std.proofs.Common.{◌≡◌, length, vec_items, vec_len, ap, arith}
 use Rattle.circuit.proofs.Named.{input_name_at, gate_name_at, past_name_at}
 use Rattle.circuit.proofs.rules.name_at.Goals as goal
 

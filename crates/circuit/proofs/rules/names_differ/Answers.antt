@@ -1,4 +1,4 @@
-use Rattle.std.proofs.Common.{◌≡◌, None, sym, ap, ◌∙◌, arith}
+use Rattle.std.proofs.Common.{None, sym, ◌∙◌, arith}
 use Rattle.circuit.specs.Model.{names}
 use Rattle.circuit.specs.Lawful.{unclaimed}
 use Rattle.circuit.specs.Tables.{tables_model}

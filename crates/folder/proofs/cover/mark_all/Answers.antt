@@ -1,7 +1,7 @@
-use Rattle.std.proofs.Common.{◌≡◌, ◌+◌, ◌≤◌, true, false, cond, get_or, sym, ap, ◌∙◌, add-zero, arith}
+use Rattle.std.proofs.Common.{◌≡◌, ◌+◌, cond, get_or, sym, ap, ◌∙◌, add-zero, arith}
 use Rattle.circuit.specs.Circuits.{circuit_model}
 use Rattle.faults.specs.Cubes.{cube_model}
-use Rattle.folder.proofs.Marking.{Marked, counted_le, mark_more, mark_first, mark_end}
+use Rattle.folder.proofs.Marking.{counted_le, mark_more, mark_end}
 use Rattle.folder.proofs.cover.mark_all.Goals as goal
 use Rattle.folder.proofs.cover.mark_all.Goals.{then-mark, else-mark}
 

@@ -1,4 +1,4 @@
-use Rattle.std.proofs.Common.{◌≡◌, map, None}
+use Rattle.std.proofs.Common.{◌≡◌, None}
 use Rattle.circuit.specs.Circuits.{circuit_model}
 use Rattle.faults.specs.Cubes.{cube_model}
 use Rattle.folder.proofs.Marking.{Marked}

@@ -1,4 +1,4 @@
-use Rattle.std.proofs.Common.{◌≡◌, length, sym, refl, subst}
+use Rattle.std.proofs.Common.{length, sym, refl, subst}
 use Rattle.folder.specs.Folders.{folder_model}
 use Rattle.law.specs.declared.call.Call.{Call}
 use Rattle.law.specs.Histories.{event_of, Step}

@@ -1,8 +1,8 @@
-use Rattle.std.proofs.Common.{◌≡◌, List, ◌∷◌, length, sym, ap, subst}
+use Rattle.std.proofs.Common.{◌∷◌, length, sym, subst}
 use Rattle.circuit.specs.declared.circuit.Circuit as code
 use Rattle.circuit.specs.Circuits.{circuit_model}
 use Rattle.folder.specs.Folders.{folder_model}
-use Rattle.law.specs.Histories.{Event, event_of, Run}
+use Rattle.law.specs.Histories.{event_of, Run}
 use Rattle.law.specs.Sound.{Sound}
 use Rattle.law.proofs.Holding.{law_step}
 use Rattle.law.proofs.performing.perform.Goals as goal

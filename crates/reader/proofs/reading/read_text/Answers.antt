@@ -1,5 +1,5 @@
-use Rattle.std.proofs.Common.{◌≡◌, sym, ◌∙◌, true≢false, arith}
-use Rattle.reader.specs.Reading.{Granted, reading}
+use Rattle.std.proofs.Common.{sym, ◌∙◌, true≢false, arith}
+use Rattle.reader.specs.Reading.{Granted}
 use Rattle.reader.specs.Parsing.{so_far}
 use Rattle.reader.proofs.Lawful.{granted_lawful, reading_short}
 use Rattle.reader.proofs.Steps.{reads_text}

@@ -1,7 +1,7 @@
-use Rattle.std.proofs.Common.{◌≡◌, ℕ, ◌++◌, is_ok, sym, refl, ap, ◌∙◌, subst, arith}
+use Rattle.std.proofs.Common.{ℕ, ◌++◌, is_ok, ap, ◌∙◌, arith}
 use lib.Utf8.{encode}
 use Rattle.std.proofs.Output.{writes_in_calls_nil, has_written_append, has_written_of_eq}
-use Rattle.replies.specs.Texts.{levels, level_letter}
+use Rattle.replies.specs.Texts.{levels}
 use Rattle.replies.proofs.Levels.{levels_more}
 use Rattle.replies.proofs.cube_text.write_levels.Goals as goal
 

@@ -1,11 +1,11 @@
-use Rattle.std.proofs.Common.{◌≡◌, ℕ, ◌+◌, ◌≤◌, Bool, true, false, cond, List, ◌++◌, map, length, string_bytes, sym, refl, ap, ◌∙◌, arith}
+use Rattle.std.proofs.Common.{◌≡◌, ℕ, ◌+◌, ◌≤◌, Bool, true, false, cond, List, map, length, string_bytes, sym, ap, ◌∙◌, arith}
 use Rattle.std.proofs.lemmas.List.{length-map}
 use Rattle.circuit.specs.declared.circuit.Circuit.{Circuit}
 use Rattle.circuit.specs.Circuits.{circuit_model}
 use Rattle.folder.specs.declared.entry.Entry.{Entry}
 use Rattle.folder.specs.declared.state.State.{State}
 use Rattle.folder.specs.Entries.{entry_model, state_model}
-use Rattle.replies.specs.Lines.{entry_lines, counts_line, is_tested, tested_count, listing}
+use Rattle.replies.specs.Lines.{entry_lines, is_tested, tested_count, listing}
 use Rattle.replies.proofs.Rows.{rows_more, tested_more, rows_end, tested_end, listed_whole}
 use Rattle.replies.proofs.listing.listing.Goals as goal
 

@@ -1,4 +1,4 @@
-use Rattle.std.proofs.Common.{◌≡◌, ◌+◌, ◌^◌, ◌<◌, false, leb, length, ◌∙◌, arith, pow_mono}
+use Rattle.std.proofs.Common.{◌^◌, ◌<◌, length, ◌∙◌, arith, pow_mono}
 use Rattle.std.proofs.lemmas.Bool.{lt-leb}
 use Rattle.circuit.specs.Circuits.{circuit_model}
 use Rattle.faults.specs.Cubes.{cube_model}

@@ -1,4 +1,4 @@
-use Rattle.std.proofs.Common.{◌≡◌, ℕ, ◌+◌, ◌^◌, ◌<◌, sym, ap, ◌∙◌, subst, arith}
+use Rattle.std.proofs.Common.{ℕ, ◌+◌, ◌^◌, ◌<◌, sym, ap, ◌∙◌, subst, arith}
 use Rattle.faults.specs.Cubes.{Cube, cube_model}
 use Rattle.visit.proofs.Cubes.{driving_above, drive_lower, level_below}
 use Rattle.visit.proofs.visiting.child.Goals as goal

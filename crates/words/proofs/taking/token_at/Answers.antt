@@ -1,8 +1,6 @@
-use Rattle.std.proofs.Common.{◌≡◌, ℕ, ◌+◌, length, get_or, sym, refl, ap, ◌∙◌, arith, rules}
+use Rattle.std.proofs.Common.{sym, refl, arith, rules}
 use Rattle.std.proofs.lemmas.List.{at_drop_all}
-use Rattle.words.specs.declared.bytes.ByteClass.{ByteClass}
 use Rattle.words.specs.declared.bytes.ByteClass.TheVariants as class_of
-use Rattle.words.specs.Bytes.{class}
 use Rattle.words.specs.Lexemes.{lexemes}
 use Rattle.words.proofs.Runs.{byte_step, word_at}
 use Rattle.words.proofs.taking.token_at.Goals as goal

@@ -1,7 +1,4 @@
-use Rattle.std.proofs.Common.{length, vec_items, sym, ap, ◌∙◌, arith}
-use Rattle.std.proofs.lemmas.List.{length-map, get_or-map}
-use Rattle.std.proofs.lemmas.Option.{slice_get-get_or, slice_get_past}
-use Rattle.folder.specs.Entries.{entry_model}
+use Rattle.std.proofs.Common.{vec_items, sym, ap, arith}
 use Rattle.folder.specs.Transitions.{found_entry}
 use Rattle.folder.proofs.Listed.{model_read, model_past}
 use Rattle.folder.proofs.folder.Folder.entry_at.Goals as goal

@@ -1,10 +1,10 @@
-use Rattle.std.proofs.Common.{◌≡◌, ℕ, ◌<◌, leb, [], ◌∷◌, vec_items, sym, refl, ap, ◌∙◌, arith, rules}
+use Rattle.std.proofs.Common.{◌≡◌, ℕ, leb, ◌∷◌, vec_items, sym, ap, ◌∙◌, arith}
 use Rattle.std.proofs.lemmas.Result.{err_from_is_err_and}
 use Rattle.words.specs.declared.token.Token.{Token}
-use Rattle.words.specs.Lexemes.{Opening, lexeme, is_end}
+use Rattle.words.specs.Lexemes.{lexeme, is_end}
 use Rattle.circuit.specs.Ops.{most_operands}
 use Rattle.reader.specs.Reading.{operand}
-use Rattle.reader.specs.Parsing.{ahead, so_far, at, resumed}
+use Rattle.reader.specs.Parsing.{ahead, so_far}
 use Rattle.reader.proofs.Steps.{leads_error, leads_from, refuses_from, resumed_at, stepped, gate_opened, operand_onward, made_always}
 use Rattle.reader.proofs.parser.Parser.+gate_operand_operands.Goals as goal
 

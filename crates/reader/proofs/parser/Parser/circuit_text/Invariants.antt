@@ -1,5 +1,5 @@
 use Rattle.std.proofs.Common.{◌≡◌, length}
-use Rattle.reader.specs.Reading.{inputs_line, next_line}
+use Rattle.reader.specs.Reading.{next_line}
 use Rattle.reader.specs.Parsing.{ahead, at}
 use Rattle.reader.proofs.parser.Parser.circuit_text.Given as goal
 

@@ -1,9 +1,9 @@
-use Rattle.std.proofs.Common.{◌≡◌, ℕ, ◌<◌, leb, List, [], map, None, vec_items, vec_len, sym, refl, ap, ◌∙◌, arith}
+use Rattle.std.proofs.Common.{ℕ, map, None, vec_items, sym, refl, ap, ◌∙◌, arith}
 use Rattle.std.proofs.lemmas.Bool.{lt-leb, le-ltb}
 use Rattle.circuit.specs.Model.{Circuit, line_count}
 use Rattle.circuit.specs.Tables.{gate_model}
 use Rattle.circuit.proofs.Sizes.{lines_count}
-use Rattle.reader.specs.Reading.{Pending, gate_made}
+use Rattle.reader.specs.Reading.{gate_made}
 use Rattle.reader.specs.Parsing.{ahead, so_far, resumed}
 use Rattle.reader.proofs.Steps.{resumed_at, gate_pushed, gate_complete}
 use Rattle.reader.proofs.parser.Parser.close_gate.Goals as goal

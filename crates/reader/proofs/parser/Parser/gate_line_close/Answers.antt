@@ -1,6 +1,6 @@
-use Rattle.std.proofs.Common.{◌≡◌, ◌-◌, List, sym, refl, ap, ◌∙◌, arith}
+use Rattle.std.proofs.Common.{◌-◌, List, refl, ap, ◌∙◌, arith}
 use Rattle.words.specs.Lexemes.{Closing, lexeme}
-use Rattle.circuit.specs.Model.{Circuit, Gate}
+use Rattle.circuit.specs.Model.{Gate}
 use Rattle.reader.specs.Reading.{gate_line_close, line_end, run}
 use Rattle.reader.specs.Parsing.{ahead, so_far}
 use Rattle.reader.proofs.Steps.{stepped_at, gate_renamed, gate_unnamed}

@@ -1,9 +1,8 @@
-use Rattle.std.proofs.Common.{◌≡◌, true, false, sym, refl, ap, ◌∙◌, arith}
-use Rattle.words.specs.Lexemes.{Closing, lexeme}
+use Rattle.std.proofs.Common.{true, false, refl, ◌∙◌, arith}
+use Rattle.words.specs.Lexemes.{Closing}
 use Rattle.refusals.specs.declared.cause.Refusal.TheVariants as refusal
 use Rattle.refusals.specs.declared.layers.FormRefusal.TheVariants.{Misplaced}
-use Rattle.reader.specs.Reading.{input_name, line_end, run}
-use Rattle.reader.specs.Parsing.{ahead, so_far}
+use Rattle.reader.specs.Reading.{input_name}
 use Rattle.reader.proofs.Steps.{refuses_as, stepped_at, inputs_closed}
 use Rattle.reader.proofs.parser.Parser.input_names.Goals as goal
 
