@@ -6,11 +6,12 @@ ghost use Rattle.folder.specs.Transitions.{enter_fault};
 ghost use Rattle.session.specs.Sessions.{session_model, entered_answer, job_answer, job_stores};
 ghost use Rattle.session.specs.Answers.{Answers, answer_model, replied};
 
+use crate::entering::enter;
 use crate::lines::line_after;
 use crate::reply::Answer;
 use crate::session::Session;
 use folder::Folder;
-use jobs::{Job, JobLine, read_job};
+use jobs::{Job, JobLine, Kind, read_job};
 use refusals::{Cause, Layer, Refusal};
 use replies::Reply;
 use replies::listing::listing;
@@ -34,7 +35,9 @@ impl Session {
     ) -> Result<Reply, Refusal>
         ensures { MatchResult result (λ reply. (next : ℕ) → replied reply next (session_model self.new) ≡ entered_answer (session_model self.old) place next (enter_fault (session_model self.old).folder line pin level)) (λ e. (e ≡ Memory) × (session_model self.new ≡ session_model self.old) × (is_ok (enter_fault (session_model self.old).folder line pin level) ≡ true)) }
     {
-        match self.folder.enter(line, pin, level) {
+        // a fault job is read only once a kind was chosen
+        let kind = self.kind.unwrap_or(Kind::Nine);
+        match enter(&mut self.folder, kind, line, pin, level) {
             Ok(number) => Ok(Reply::Entered { number }),
             Err(Refusal::Folder(refusal)) => Ok(Reply::Refused {
                 cause: Cause {

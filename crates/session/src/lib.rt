@@ -2,6 +2,7 @@
 #![tactic(auto)]
 
 mod answer;
+mod entering;
 mod lines;
 pub mod reply;
 pub mod session;

@@ -1,0 +1,64 @@
+// Entering a fault by the call that makes each change of a folder, under the chosen kind.
+ghost use Rattle.std.specs.Prelude.{◌≡◌, ◌∷◌, List};
+ghost use Rattle.folder.specs.Folders.{folder_model};
+ghost use Rattle.folder.specs.Transitions.{Follows, enter_fault};
+ghost use Rattle.law.specs.declared.call.Call.TheVariants as asked;
+ghost use Rattle.law.specs.Histories.{Event, event_of, Step, Run};
+ghost use Rattle.law.specs.Sound.{Sound};
+ghost use Rattle.session.specs.Kinds.{kind_of};
+
+use folder::Folder;
+use jobs::Kind;
+use law::{Call, Outcome, perform};
+use refusals::Refusal;
+use simulator::Socket;
+use values::five::Five;
+use values::nine::Nine;
+use values::seven::Seven;
+
+// Performs the call under that kind. Entering works out no line, so the row has no place.
+fn enter_under(
+    folder: &mut Folder,
+    kind: Kind,
+    line: usize,
+    pin: usize,
+    level: usize,
+) -> Result<Outcome, Refusal>
+    ensures step { Step (kind_of kind) (folder_model folder.old).circuit (event_of (asked.Enter line pin level) 0 result) (folder_model folder.old).table (folder_model folder.new).table }
+    ensures circuit { folder.new.circuit ≡ folder.old.circuit }
+{
+    let call = Call::Enter { line, pin, level };
+    let mut socket = Socket::new();
+    match kind {
+        Kind::Five => {
+            let mut row: [Five; 0] = [];
+            perform(folder, call, &mut socket, &mut row)
+        }
+        Kind::Seven => {
+            let mut row: [Seven; 0] = [];
+            perform(folder, call, &mut socket, &mut row)
+        }
+        Kind::Nine => {
+            let mut row: [Nine; 0] = [];
+            perform(folder, call, &mut socket, &mut row)
+        }
+    }
+}
+
+// Enters the fault and answers the number of its entry, or says why not.
+pub fn enter(
+    folder: &mut Folder,
+    kind: Kind,
+    line: usize,
+    pin: usize,
+    level: usize,
+) -> Result<usize, Refusal>
+    ensures value { Follows (enter_fault (folder_model folder.old) line pin level) (folder_model folder.old).table result (folder_model folder.new).table }
+    ensures circuit { folder.new.circuit ≡ folder.old.circuit }
+{
+    match enter_under(folder, kind, line, pin, level) {
+        Ok(Outcome::Entered { number }) => Ok(number),
+        Ok(Outcome::Searched { .. } | Outcome::Covered { .. }) => unreachable(),
+        Err(refusal) => Err(refusal),
+    }
+}
