@@ -16,3 +16,5 @@ mod limits;
 mod order;
 #[cfg(test)]
 mod refused;
+#[cfg(test)]
+mod searches;

@@ -1,10 +1,9 @@
 // Entering a fault by the call that makes each change of a folder, under the chosen kind.
-ghost use Rattle.std.specs.Prelude.{◌≡◌, ◌∷◌, List};
+ghost use Rattle.std.specs.Prelude.{◌≡◌};
 ghost use Rattle.folder.specs.Folders.{folder_model};
 ghost use Rattle.folder.specs.Transitions.{Follows, enter_fault};
 ghost use Rattle.law.specs.declared.call.Call.TheVariants as asked;
-ghost use Rattle.law.specs.Histories.{Event, event_of, Step, Run};
-ghost use Rattle.law.specs.Sound.{Sound};
+ghost use Rattle.law.specs.Histories.{event_of, Step};
 ghost use Rattle.session.specs.Kinds.{kind_of};
 
 use folder::Folder;
