@@ -4,6 +4,7 @@ use reader::read;
 use refusals::{Layer, Refusal};
 use std::alloc::Global;
 use std::process::Abort;
+use std::str;
 use std::test::Fail;
 
 // A text that is refused: the text, the number and the place.
@@ -44,17 +45,34 @@ fn layer_of(number: u8) -> u8 {
     }
 }
 
-// The bytes of a text that a message shows.
-fn start_of(text: &[u8]) -> &[u8] {
-    let (start, _) = text.split_at(text.len().min(60));
-    start
+// What a message shows of a text: how it begins and how it ends, and the first bytes as numbers.
+#[derive(Clone, Copy)]
+struct Shown<'a>(&'a str, &'a str, &'a [u8]);
+
+fn as_text(bytes: &[u8]) -> &str {
+    match str::from_utf8(bytes) {
+        Ok(text) => text,
+        Err(_) => "bytes that are no text",
+    }
 }
 
-pub fn expect_blank(rt: &impl Abort, circuit: &Circuit) -> Result<(), Fail> {
-    assert_eq!(rt; circuit.line_count(), 1);
-    assert_eq!(rt; circuit.input_count(), 1);
-    assert_eq!(rt; circuit.line_named(b"a"), Some(0));
-    assert_eq!(rt; circuit.outputs(), &[0][..]);
+fn ends_of(text: &[u8]) -> Shown<'_> {
+    let (start, _) = text.split_at(text.len().min(60));
+    let (_, end) = text.split_at(text.len().saturating_sub(60));
+    let (bytes, _) = text.split_at(text.len().min(12));
+    Shown(as_text(start), as_text(end), bytes)
+}
+
+pub fn expect_blank(rt: &impl Abort, circuit: &Circuit, text: &[u8]) -> Result<(), Fail> {
+    let Shown(start, end, bytes) = ends_of(text);
+    assert_eq!(rt; circuit.line_count(), 1, "{start} .. {end} {bytes:?}");
+    assert_eq!(rt; circuit.input_count(), 1, "{start} .. {end} {bytes:?}");
+    assert_eq!(rt;
+        circuit.line_named(b"a"),
+        Some(0),
+        "{start} .. {end} {bytes:?}"
+    );
+    assert_eq!(rt; circuit.outputs(), &[0][..], "{start} .. {end} {bytes:?}");
     Ok(())
 }
 
@@ -67,18 +85,22 @@ pub fn expect_refused(
     place: usize,
 ) -> Result<(), Fail> {
     let mut circuit = other_circuit(heap)?;
-    let start = start_of(text);
+    let Shown(start, end, bytes) = ends_of(text);
     match read(heap, text, &mut circuit) {
         Ok(_) => {
-            assert!(rt; false, "granted: {start:?}");
+            assert!(rt; false, "granted: {start} .. {end} {bytes:?}");
             Ok(())
         },
         Err(refusal) => {
             let cause = refusal.cause().ok_or("no memory")?;
-            assert_eq!(rt; cause.number, number, "{start:?}");
-            assert_eq!(rt; cause.place, place, "{start:?}");
-            assert_eq!(rt; layer_number(cause.layer), layer_of(number), "{start:?}");
-            expect_blank(rt, &circuit)
+            assert_eq!(rt; cause.number, number, "{start} .. {end} {bytes:?}");
+            assert_eq!(rt; cause.place, place, "{start} .. {end} {bytes:?}");
+            assert_eq!(rt;
+                layer_number(cause.layer),
+                layer_of(number),
+                "{start} .. {end} {bytes:?}"
+            );
+            expect_blank(rt, &circuit, text)
         }
     }
 }
@@ -99,13 +121,20 @@ pub fn expect_granted(
     place: usize,
 ) -> Result<(), Fail> {
     let mut circuit = other_circuit(heap)?;
-    let start = start_of(text);
-    let rest = read(heap, text, &mut circuit)?;
-    assert_eq!(rt; rest.place, place, "{start:?}");
-    assert!(rt; place <= text.len());
-    assert_eq!(rt; rest.bytes, &text[place..], "{start:?}");
-    assert_eq!(rt; circuit.input_count(), size.0, "{start:?}");
-    assert_eq!(rt; circuit.line_count(), size.1, "{start:?}");
-    assert_eq!(rt; circuit.outputs().len(), size.2, "{start:?}");
+    let Shown(start, end, bytes) = ends_of(text);
+    let Ok(rest) = read(heap, text, &mut circuit) else {
+        assert!(rt; false, "refused: {start} .. {end} {bytes:?}");
+        return Ok(());
+    };
+    assert_eq!(rt; rest.place, place, "{start} .. {end} {bytes:?}");
+    assert!(rt; place <= text.len(), "{start} .. {end} {bytes:?}");
+    assert_eq!(rt; rest.bytes, &text[place..], "{start} .. {end} {bytes:?}");
+    assert_eq!(rt; circuit.input_count(), size.0, "{start} .. {end} {bytes:?}");
+    assert_eq!(rt; circuit.line_count(), size.1, "{start} .. {end} {bytes:?}");
+    assert_eq!(rt;
+        circuit.outputs().len(),
+        size.2,
+        "{start} .. {end} {bytes:?}"
+    );
     Ok(())
 }

@@ -1,5 +1,5 @@
 -- The rules that every circuit keeps.
-use Rattle.std.specs.Prelude.{ℕ, ◌+◌, Bool, true, not, ◌&&◌, ltb, List, [], ◌∷◌, ◌++◌, length, is_some, Some, None, Option, nat_eq, nat_le, nat_lt}
+use Rattle.std.specs.Prelude.{ℕ, ◌+◌, Bool, true, not, ◌&&◌, List, [], ◌∷◌, ◌++◌, length, is_some, Some, None, Option, nat_eq, nat_le, nat_lt}
 use Rattle.words.specs.Lists.{every, some}
 use Rattle.circuit.specs.Ops.{fewest_operands, most_operands}
 use Rattle.circuit.specs.Model.{Gate, Circuit, line_count, names, line_named}
@@ -15,7 +15,7 @@ between low high n = nat_le low n && nat_le n high
 -- a gate with that number has as many operands as its operator takes, and reads only lines with lower numbers
 abbrev pub gate_fits : ℕ → Gate → Bool
 gate_fits line g =
-    between (fewest_operands g.op) (most_operands g.op) (length g.operands) && every (λ (o : ℕ). ltb o line) g.operands
+    between (fewest_operands g.op) (most_operands g.op) (length g.operands) && every (λ (o : ℕ). nat_lt o line) g.operands
 
 -- a name that no line before it has, or none
 abbrev pub unclaimed : List (Option (List ℕ)) → Option (List ℕ) → Bool

@@ -6,9 +6,9 @@ use Rattle.words.specs.Lists.{some}
 use Rattle.faults.specs.declared.fault.Fault.{Fault}
 use Rattle.faults.specs.Faults.{same_fault}
 use Rattle.faults.specs.Cubes.{Cube, cube_model}
-use Rattle.folder.specs.declared.state.State as code-state
+use Rattle.folder.specs.declared.state.State as code_state
 use Rattle.folder.specs.declared.state.State.TheVariants as state
-use Rattle.folder.specs.declared.entry.Entry as code-entry
+use Rattle.folder.specs.declared.entry.Entry as code_entry
 
 -- What is known of a fault: nothing; that the tries ran out, with the best cube that was met; a test that
 -- drives as few inputs as any; that no vector detects it; or the number of the entry whose cube detects it.
@@ -29,7 +29,7 @@ abbrev pub with_state : Entry → State → Entry
 with_state e s = record { fault = e.fault; state = s }
 
 -- what a state of the code stands for
-abbrev pub state_model : code-state.State → State
+abbrev pub state_model : code_state.State → State
 state_model state.Open = Open
 state_model (state.Spent cube tries) = Spent (option_map cube_model cube) tries
 state_model (state.Fewest cube tries) = Fewest (cube_model cube) tries
@@ -37,11 +37,11 @@ state_model (state.Redundant tries) = Redundant tries
 state_model (state.Covered by) = Covered by
 
 -- what an entry of the code stands for
-abbrev pub entry_model : code-entry.Entry → Entry
+abbrev pub entry_model : code_entry.Entry → Entry
 entry_model e = record { fault = e.fault; state = state_model e.state }
 
 -- a new entry of a fault, as the code has it
-abbrev pub new_entry : Fault → code-entry.Entry
+abbrev pub new_entry : Fault → code_entry.Entry
 new_entry f = record { fault = f; state = state.Open }
 
 -- a new entry of a fault, as the definitions have it

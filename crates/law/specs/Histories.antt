@@ -16,7 +16,7 @@ use Rattle.folder.specs.Covering.{cover_entry}
 use Rattle.law.specs.declared.call.Call.{Call}
 use Rattle.law.specs.declared.call.Call.TheVariants.{Enter, Search, Cover}
 use Rattle.law.specs.declared.call.Outcome as code
-use Rattle.law.specs.declared.call.Outcome.TheVariants as code-outcome
+use Rattle.law.specs.declared.call.Outcome.TheVariants as code_outcome
 
 -- what a granted call answers
 pub data Outcome : Type 0 where
@@ -25,9 +25,9 @@ pub data Outcome : Type 0 where
   Covered : ℕ → Outcome
 
 abbrev pub outcome_model : code.Outcome → Outcome
-outcome_model (code-outcome.Entered number) = Entered number
-outcome_model (code-outcome.Searched answer) = Searched (answer_model answer)
-outcome_model (code-outcome.Covered count) = Covered count
+outcome_model (code_outcome.Entered number) = Entered number
+outcome_model (code_outcome.Searched answer) = Searched (answer_model answer)
+outcome_model (code_outcome.Covered count) = Covered count
 
 -- a call, the places of the row that it was given, and its answer or refusal
 pub record Event : Type 0 where

@@ -15,12 +15,12 @@ smallest_test sets s r = among sets r && (holds_all r s && every (λ t. implies 
 
 smallest_is : (sets : List Pairs) (s r : Pairs) → smallest_test sets s r ≡ true → Smallest sets s r
 smallest_is sets s r h =
-    let least-test : Pairs → Bool = λ t. implies (holds_all t s) (holds_all t r) in
-    let rest = and_right (among sets r) (holds_all r s && every least-test sets) h in
+    let least_test : Pairs → Bool = λ t. implies (holds_all t s) (holds_all t r) in
+    let rest = and_right (among sets r) (holds_all r s && every least_test sets) h in
     record {
       listed = among_is sets r (and_left (among sets r) _ h);
-      holds = holds_member r s (and_left (holds_all r s) (every least-test sets) rest);
-      least = λ t m k. holds_member t r (implied (holds_all t s) _ (every_at least-test sets (and_right (holds_all r s) _ rest) t m) (holds_test t s k));
+      holds = holds_member r s (and_left (holds_all r s) (every least_test sets) rest);
+      least = λ t m k. holds_member t r (implied (holds_all t s) _ (every_at least_test sets (and_right (holds_all r s) _ rest) t m) (holds_test t s k));
     }
 
 abbrev one_test : List Pairs → (Pair → Pair) → (Pairs → Pairs) → Bool

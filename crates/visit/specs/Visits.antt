@@ -9,18 +9,18 @@ use Rattle.circuit.specs.Model.{Circuit, line_count}
 use Rattle.faults.specs.declared.fault.Fault.{Fault}
 use Rattle.faults.specs.Cubes.{cube_model}
 use Rattle.visit.specs.declared.answer.Answer as code
-use Rattle.visit.specs.declared.answer.Answer.TheVariants as code-answer
-use Rattle.visit.specs.declared.progress.Progress as code-progress
+use Rattle.visit.specs.declared.answer.Answer.TheVariants as code_answer
+use Rattle.visit.specs.declared.progress.Progress as code_progress
 use Rattle.visit.specs.Visiting.{Progress, Answer, Fewest, Redundant, Spent, answer}
 use Rattle.visit.specs.Meaning.{Means}
 
-abbrev pub progress_model : code-progress.Progress → Progress
+abbrev pub progress_model : code_progress.Progress → Progress
 progress_model p = record { best = options.option_map cube_model p.best; tries = p.tries; spent = p.spent }
 
 abbrev pub answer_model : code.Answer → Answer
-answer_model (code-answer.Fewest cube tries) = Fewest (cube_model cube) tries
-answer_model (code-answer.Redundant tries) = Redundant tries
-answer_model (code-answer.Spent best tries) = Spent (options.option_map cube_model best) tries
+answer_model (code_answer.Fewest cube tries) = Fewest (cube_model cube) tries
+answer_model (code_answer.Redundant tries) = Redundant tries
+answer_model (code_answer.Spent best tries) = Spent (options.option_map cube_model best) tries
 
 -- the answer for a fault, worked out in a row of so many places; refused if the circuit has more lines
 abbrev pub answer_in : Kind → Circuit → Fault → ℕ → ℕ → Result Answer FolderRefusal
