@@ -15,7 +15,7 @@ use values::five::Five;
 use values::nine::Nine;
 use values::seven::Seven;
 
-// Performs the call under that kind. Entering works out no line, so the row has no place.
+// Enters the fault under that kind. Entering works out no line, so the row has no place.
 fn enter_under(
     folder: &mut Folder,
     kind: Kind,
@@ -29,18 +29,9 @@ fn enter_under(
     let call = Call::Enter { line, pin, level };
     let mut socket = Socket::new();
     match kind {
-        Kind::Five => {
-            let mut row: [Five; 0] = [];
-            perform(folder, call, &mut socket, &mut row)
-        }
-        Kind::Seven => {
-            let mut row: [Seven; 0] = [];
-            perform(folder, call, &mut socket, &mut row)
-        }
-        Kind::Nine => {
-            let mut row: [Nine; 0] = [];
-            perform(folder, call, &mut socket, &mut row)
-        }
+        Kind::Five => perform::<Five>(folder, call, &mut socket, &mut []),
+        Kind::Seven => perform::<Seven>(folder, call, &mut socket, &mut []),
+        Kind::Nine => perform::<Nine>(folder, call, &mut socket, &mut []),
     }
 }
 

@@ -1,8 +1,8 @@
--- What the visit holds is a cube of the circuit's inputs that shows.
+-- What lasts through a visit: its best cube is a cube of the circuit's inputs that shows, and its tries stay within the budget.
 use Rattle.std.proofs.Common.{◌≡◌, ℕ, zero, suc, ◌+◌, ◌-◌, ◌*◌, ◌/◌, ◌%◌, ◌^◌, ◌<◌, ◌≤◌, Bool, true, false, cond, not, ◌&&◌, ltb, ◌⊎◌, Some, None, Option, sym, refl, ap, ◌∙◌, subst, inl, inr, mul_assoc, mul_comm, one-mul, pow-suc, zero-add, arith, pow_mono}
 use native.Mathlib.Nat.{add-mul-div_right, add-mul-mod_self_right, div-eq_of_lt}
 use Rattle.std.proofs.lemmas.Nat.{pow_pos, pow-add}
-use Rattle.std.proofs.lemmas.Bool.{cases_eq, cases_lt}
+use Rattle.std.proofs.lemmas.Bool.{cases_eq, cases_lt, ltb-true}
 use Rattle.faults.specs.Cubes.{Cube, Within, nothing_driven}
 use Rattle.simulator.specs.declared.verdict.Verdict.{Verdict}
 use Rattle.simulator.specs.declared.verdict.Verdict.TheVariants.{Shows, Still, Unsure}
@@ -74,39 +74,53 @@ shape_drive k v q one h = record { driven_low = omega (arith, double k, h.driven
             strict : k ≤ i → (i ≡ k → ⊥) → k < i
             strict l ne = omega arith
 
-module _ (judge : Cube → Verdict) (budget inputs : ℕ) where
-  abbrev pub Good : Option Cube → Type 0
-  Good None = Unit {0}
-  Good (Some b) = (judge b ≡ Shows) × Shape inputs b
+-- A fact about how far a visit has come lasts to its end, if it holds at the start and each step keeps it: a cube that shows,
+-- a cube that does not, and a try for which no budget is left.
+module _ (judge : Cube → Verdict) (budget inputs : ℕ) (Fact : Progress → Type 0)
+    (shown : (q : Cube) → Shape inputs q → judge q ≡ Shows → (s : Progress) → s.tries < budget → Fact s → Fact (record { best = Some q; tries = s.tries + 1; spent = false }))
+    (passed : (s : Progress) → s.tries < budget → Fact s → Fact (record { best = s.best; tries = s.tries + 1; spent = false }))
+    (ended : (s : Progress) → Fact s → Fact (record { best = s.best; tries = s.tries; spent = true })) where
+  tried_keeps : (v : Verdict) (deeper : Progress → Progress) (q : Cube) → judge q ≡ v → Shape inputs q → ((s : Progress) → Fact s → Fact (deeper s)) → (s : Progress) → s.tries < budget → Fact s → Fact (tried v deeper q s)
+  tried_keeps Shows deeper q e h d s l g = shown q h e s l g
+  tried_keeps Still deeper q e h d s l g = passed s l g
+  tried_keeps Unsure deeper q e h d s l g = d _ (passed s l g)
 
-  tried_good : (v : Verdict) (deeper : Progress → Progress) (q : Cube) → judge q ≡ v → Shape inputs q → ((s : Progress) → Good s.best → Good (deeper s).best) → (s : Progress) → Good s.best → Good (tried v deeper q s).best
-  tried_good Shows deeper q e h d s g = (e, h)
-  tried_good Still deeper q e h d s g = g
-  tried_good Unsure deeper q e h d s g = d _ g
-
-  met_good : (deeper : Cube → Progress → Progress) (q : Cube) → Shape inputs q → ((s : Progress) → Good s.best → Good (deeper q s).best) → (s : Progress) → Good s.best → Good (met judge budget deeper q s).best
-  met_good deeper q h d s g = go (not s.spent && fewer q s.best) (ltb s.tries budget)
+  met_keeps : (deeper : Cube → Progress → Progress) (q : Cube) → Shape inputs q → ((s : Progress) → Fact s → Fact (deeper q s)) → (s : Progress) → Fact s → Fact (met judge budget deeper q s)
+  met_keeps deeper q h d s g = go (not s.spent && fewer q s.best) (ltb s.tries budget) refl
     where
-      go : (a b : Bool) → Good (cond a (cond b (tried (judge q) (deeper q) q s) (record { best = s.best; tries = s.tries; spent = true })) s).best
-      go false b = g
-      go true false = g
-      go true true = tried_good (judge q) (deeper q) q refl h d s g
+      go : (a b : Bool) → ltb s.tries budget ≡ b → Fact (cond a (cond b (tried (judge q) (deeper q) q s) (record { best = s.best; tries = s.tries; spent = true })) s)
+      go false b e = g
+      go true false e = ended s g
+      go true true e = tried_keeps (judge q) (deeper q) q refl h d s (ltb-true _ _ e) g
 
-  below_good : (m k : ℕ) → k + m ≡ inputs → (q : Cube) → Shape k q → (s : Progress) → Good s.best → Good (below judge budget inputs m q s).best
-  below_good zero k e q h s g = g
-  below_good (suc m) k e q h s g =
+  below_keeps : (m k : ℕ) → k + m ≡ inputs → (q : Cube) → Shape k q → (s : Progress) → Fact s → Fact (below judge budget inputs m q s)
+  below_keeps zero k e q h s g = g
+  below_keeps (suc m) k e q h s g =
       let at : k ≡ inputs - suc m = omega arith in
       let shaped : (v : ℕ) → v ≤ 1 → Shape (k + 1) (drive q (inputs - suc m) v) = λ v l. subst (λ (i : ℕ). Shape (k + 1) (drive q i v)) at (shape_drive k v q l h) in
-      below_good m (k + 1) (omega arith) q (shape_mono k (k + 1) q (omega arith) h) _
-      (met_good (below judge budget inputs m) (drive q (inputs - suc m) 1) (shape_mono (k + 1) inputs _ (omega arith) (shaped 1 (omega arith))) (below_good m (k + 1) (omega arith) (drive q (inputs - suc m) 1) (shaped 1 (omega arith))) _
-      (met_good (below judge budget inputs m) (drive q (inputs - suc m) 0) (shape_mono (k + 1) inputs _ (omega arith) (shaped 0 (omega arith))) (below_good m (k + 1) (omega arith) (drive q (inputs - suc m) 0) (shaped 0 (omega arith))) s g))
+      below_keeps m (k + 1) (omega arith) q (shape_mono k (k + 1) q (omega arith) h) _
+      (met_keeps (below judge budget inputs m) (drive q (inputs - suc m) 1) (shape_mono (k + 1) inputs _ (omega arith) (shaped 1 (omega arith))) (below_keeps m (k + 1) (omega arith) (drive q (inputs - suc m) 1) (shaped 1 (omega arith))) _
+      (met_keeps (below judge budget inputs m) (drive q (inputs - suc m) 0) (shape_mono (k + 1) inputs _ (omega arith) (shaped 0 (omega arith))) (below_keeps m (k + 1) (omega arith) (drive q (inputs - suc m) 0) (shaped 0 (omega arith))) s g))
 
-  pub visit_good : Good (visited judge budget inputs).best
-  visit_good = met_good (below judge budget inputs inputs) nothing_driven none
-      (below_good inputs 0 (zero-add inputs) nothing_driven none0) at_start tt
+  pub visit_keeps : Fact at_start → Fact (visited judge budget inputs)
+  visit_keeps start = met_keeps (below judge budget inputs inputs) nothing_driven none
+      (below_keeps inputs 0 (zero-add inputs) nothing_driven none0) at_start start
     where
       none0 : Shape 0 nothing_driven
       none0 = record { driven_low = omega arith; level_low = omega arith; proper = λ i e. e }
 
       none : Shape inputs nothing_driven
       none = shape_mono 0 inputs nothing_driven (omega arith) none0
+
+module _ (judge : Cube → Verdict) (budget inputs : ℕ) where
+  abbrev pub Good : Option Cube → Type 0
+  Good None = Unit {0}
+  Good (Some b) = (judge b ≡ Shows) × Shape inputs b
+
+  -- the best cube shows
+  pub visit_good : Good (visited judge budget inputs).best
+  visit_good = visit_keeps judge budget inputs (λ (s : Progress). Good s.best) (λ q h e s l g. (e, h)) (λ s l g. g) (λ s g. g) tt
+
+  -- no more tries were made than the budget
+  pub visit_within : (visited judge budget inputs).tries ≤ budget
+  visit_within = visit_keeps judge budget inputs (λ (s : Progress). s.tries ≤ budget) (λ q h e s l g. omega arith) (λ s l g. omega arith) (λ s g. g) (omega arith)
