@@ -21,6 +21,7 @@ pub enum Mark {
 pub struct PlacedWord<'a> {
     pub bytes: &'a [u8],
     pub place: usize,
+    ghost shaped: { name_shape bytes.now ≡ true },
 }
 
 // Why a token cannot stand where something else is due.
