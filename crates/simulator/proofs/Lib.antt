@@ -1,5 +1,4 @@
 pub mod Places
-pub mod Filling
 pub mod Driving
 pub mod Rules
 pub mod Simulating

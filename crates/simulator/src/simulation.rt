@@ -6,7 +6,7 @@ ghost use Rattle.circuit.specs.Tables.{gate_model};
 ghost use Rattle.circuit.specs.Circuits.{circuit_model};
 ghost use Rattle.faults.specs.Cubes.{cube_model};
 ghost use Rattle.simulator.specs.Lines.{inputs_row, gate_value, gates_after};
-ghost use Rattle.simulator.specs.Detection.{bit, input_value, set_of, judged};
+ghost use Rattle.simulator.specs.Detection.{input_value, set_of, judged};
 ghost use Rattle.simulator.specs.Simulation.{drives_beyond, DrivesBeyond, Simulates};
 ghost use Rattle.simulator.specs.Laws.{Telling};
 
@@ -18,33 +18,22 @@ use faults::{Cube, Fault};
 use refusals::FolderRefusal;
 use values::kind::ValueKind;
 
-// Bit `index` of a word.
-fn bit(word: u64, index: usize) -> bool
-    requires { index ≤ 63 }
-    ensures { result ≡ bit word index }
-{
-    (word >> index) % 2 == 1
-}
-
 // What a cube gives an input.
 fn input_value<V: ValueKind>(cube: Cube, input: usize) -> V
-    requires { input ≤ 63 }
     ensures { V.ValueKind.meaning result ≡ input_value V.ValueKind.kind (cube_model cube) input }
 {
-    if bit(cube.driven(), input) {
-        V::known(bit(cube.level(), input))
-    } else {
-        V::unknown()
+    match cube.level_at(input) {
+        Some(level) => V::known(level),
+        None => V::unknown(),
     }
 }
 
 // Works out the lines of the inputs.
 fn drive<V: ValueKind>(cube: Cube, fault: Option<Fault>, row: &mut [V])
-    requires few { length row.old ≤ 64 }
     ensures { map V.ValueKind.meaning row.new ≡ inputs_row V.ValueKind.kind.values fault (input_value V.ValueKind.kind (cube_model cube)) (length row.old) }
 {
     for (input, value) in row.iter_mut().enumerate() {
-        *value = at_pin(fault, input, 0, input_value::<V>(cube, input));
+        *value = at_pin(fault, input, 0, input_value(cube, input));
     }
 }
 
