@@ -1,5 +1,5 @@
 -- Steps of the definition, at the words that the reader has tested.
-use Rattle.std.proofs.Common.{◌≡◌, ℕ, zero, suc, ◌+◌, ◌<◌, ◌≤◌, Bool, true, false, cond, eqb, leb, List, [], ◌∷◌, ◌++◌, map, length, get_or, set, IfOk, Some, Ok, Err, vec_items, vec_len, Result, sym, refl, ap, ◌∙◌, arith}
+use Rattle.std.proofs.Common.{◌≡◌, ℕ, zero, suc, ◌+◌, ◌<◌, ◌≤◌, Bool, true, false, cond, eqb, leb, List, [], ◌∷◌, ◌++◌, map, length, get_or, set, IfOk, Some, Ok, Err, vec_items, vec_len, Result, MatchResult, sym, refl, ap, ◌∙◌, arith}
 use Rattle.std.proofs.lemmas.List.{map_push, map-set, get_or-map, length-map}
 use Rattle.std.proofs.lemmas.Bool.{le-leb, lt-leb, le-ltb}
 use Rattle.refusals.specs.declared.cause.Refusal.{Refusal}
@@ -111,8 +111,8 @@ pub gate_complete : (c : Circuit) (p : Pending) (name : List ℕ) (pending : Lis
 gate_complete c p name pending n enough room = rw (enough, room) refl
 
 -- how results lead on: an error that was carried up, a part before, a part after
-pub leads_error : {Y : Type 0} (before : Outcome) (s : Result Y Refusal) (after : Y → Outcome) (e f : Refusal) → s ≡ Err f → f ≡ e → Refuses before e → Leads before s after
-leads_error before s after e f is same h = rw (is, same) h
+pub carried : {X : Type 0} (before : Outcome) (r : Result X Refusal) (goes : X → Type 0) (e f : Refusal) → r ≡ Err f → f ≡ e → Refuses before e → MatchResult r goes (Refuses before)
+carried before r goes e f is same h = rw (is, same) h
 
 pub leads_from : {X : Type 0} (before mid : Outcome) (r : Result X Refusal) (after : X → Outcome) → before ≡ mid → Leads mid r after → Leads before r after
 leads_from before mid r after e h = rw e h
