@@ -16,10 +16,8 @@ returns-then-place-text c = record {
 
 pub returns-in-InWord : goal.returns-in-InWord
 returns-in-InWord c =
-    let run =
-    word_at c.args.text.now c.args.place c.word_end-end.result (omega arith) c.word_end-end.ensures.value (sym c.in-InWord.ensures)
-    in
-    record { taken = run.taken; after = run.after; inside = c.word_end-end.ensures.within; forward = λ _. run.forward; again = search rules }
+    let run = word_at c.args.text.now c.args.place c.run_end-end.result (omega arith) c.run_end-end.ensures.value (sym c.in-InWord.ensures) in
+    record { taken = run.taken; after = run.after; inside = c.run_end-end.ensures.within; forward = λ _. run.forward; again = search rules }
 
 pub returns-in-Opening : goal.returns-in-Opening
 returns-in-Opening c = record { taken = byte_step c.args.text.now c.args.place class_of.Opening (omega arith) (sym c.in-Opening.ensures); after = refl; inside = omega arith; forward = search rules; again = search rules }
