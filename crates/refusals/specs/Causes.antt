@@ -2,6 +2,10 @@
 use Rattle.std.specs.Prelude.{ℕ, List, Some, None, codes, Option}
 use Rattle.refusals.specs.declared.cause.Refusal.{Refusal}
 use Rattle.refusals.specs.declared.cause.Refusal.TheVariants.{Text, Form, Circuit, Folder, Memory}
+use Rattle.refusals.specs.declared.layers.TextRefusal.{TextRefusal}
+use Rattle.refusals.specs.declared.layers.FormRefusal.{FormRefusal}
+use Rattle.refusals.specs.declared.layers.CircuitRefusal.{CircuitRefusal}
+use Rattle.refusals.specs.declared.layers.FolderRefusal.{FolderRefusal}
 use Rattle.refusals.specs.declared.cause.Layer.{Layer}
 use Rattle.refusals.specs.declared.cause.Layer.TheVariants as layer
 use Rattle.refusals.specs.declared.cause.Cause.{Cause}
@@ -10,11 +14,25 @@ use Rattle.refusals.specs.Numbers.{text_number, text_place, form_number, form_pl
 abbrev cause : Layer → ℕ → ℕ → Cause
 cause l n p = record { layer = l; number = n; place = p }
 
+-- what a refusal of each layer is reported by
+abbrev pub text_cause : TextRefusal → Cause
+text_cause e = cause layer.Text (text_number e) (text_place e)
+
+abbrev pub form_cause : FormRefusal → Cause
+form_cause e = cause layer.Form (form_number e) (form_place e)
+
+abbrev pub circuit_cause : CircuitRefusal → Cause
+circuit_cause e = cause layer.Circuit (circuit_number e) (circuit_place e)
+
+-- a call without text has place 0
+abbrev pub folder_cause : FolderRefusal → Cause
+folder_cause e = cause layer.Folder (folder_number e) 0
+
 abbrev pub cause_of : Refusal → Option Cause
-cause_of (Text e) = Some (cause layer.Text (text_number e) (text_place e))
-cause_of (Form e) = Some (cause layer.Form (form_number e) (form_place e))
-cause_of (Circuit e) = Some (cause layer.Circuit (circuit_number e) (circuit_place e))
-cause_of (Folder e) = Some (cause layer.Folder (folder_number e) 0)
+cause_of (Text e) = Some (text_cause e)
+cause_of (Form e) = Some (form_cause e)
+cause_of (Circuit e) = Some (circuit_cause e)
+cause_of (Folder e) = Some (folder_cause e)
 cause_of Memory = None
 
 -- how a layer is written

@@ -8,7 +8,7 @@ use std::alloc::{AllocError, AllocFailed};
 use std::fmt;
 
 // `Memory` is want of memory: it has no number.
-#[derive(Clone, Copy, Debug)]
+#[derive(Clone, Copy, Debug, PartialEq, Eq)]
 pub enum Refusal {
     Text(TextRefusal),
     Form(FormRefusal),
@@ -17,7 +17,7 @@ pub enum Refusal {
     Memory,
 }
 
-#[derive(Clone, Copy, Debug)]
+#[derive(Clone, Copy, Debug, PartialEq, Eq)]
 pub enum Layer {
     Text,
     Form,
@@ -26,7 +26,7 @@ pub enum Layer {
 }
 
 // What a refusal is reported by.
-#[derive(Clone, Copy, Debug)]
+#[derive(Clone, Copy, Debug, PartialEq, Eq)]
 pub struct Cause {
     pub layer: Layer,
     pub number: u8,
@@ -39,26 +39,10 @@ impl Refusal {
         ensures { result ≡ cause_of self.now }
     {
         match self {
-            Refusal::Text(e) => Some(Cause {
-                layer: Layer::Text,
-                number: e.number(),
-                place: e.place(),
-            }),
-            Refusal::Form(e) => Some(Cause {
-                layer: Layer::Form,
-                number: e.number(),
-                place: e.place(),
-            }),
-            Refusal::Circuit(e) => Some(Cause {
-                layer: Layer::Circuit,
-                number: e.number(),
-                place: e.place(),
-            }),
-            Refusal::Folder(e) => Some(Cause {
-                layer: Layer::Folder,
-                number: e.number(),
-                place: 0,
-            }),
+            Refusal::Text(e) => Some(e.cause()),
+            Refusal::Form(e) => Some(e.cause()),
+            Refusal::Circuit(e) => Some(e.cause()),
+            Refusal::Folder(e) => Some(e.cause()),
             Refusal::Memory => None,
         }
     }
@@ -117,11 +101,11 @@ impl fmt::Display for Layer {
     ghost output = { λ l. Some (layer_text l) };
 
     fn fmt<W: fmt::Write>(&self, f: &mut fmt::Formatter<W>) -> fmt::Result {
-        match self {
-            Layer::Text => f.write_str("text"),
-            Layer::Form => f.write_str("form"),
-            Layer::Circuit => f.write_str("circuit"),
-            Layer::Folder => f.write_str("folder"),
-        }
+        f.write_str(match self {
+            Layer::Text => "text",
+            Layer::Form => "form",
+            Layer::Circuit => "circuit",
+            Layer::Folder => "folder",
+        })
     }
 }

@@ -1,10 +1,12 @@
 // The refusals of the four layers. A refusal of a text has the place of the word that failed: where that word begins,
 // where the line feed stands, or how long the text is if it failed by ending. A refusal of a call without text has none.
 ghost use Rattle.std.specs.Prelude.{◌≡◌};
-ghost use Rattle.refusals.specs.Numbers.{text_number, text_place, form_number, form_place, circuit_number, circuit_place, folder_number};
+ghost use Rattle.refusals.specs.Causes.{text_cause, form_cause, circuit_cause, folder_cause};
+
+use crate::cause::{Cause, Layer};
 
 // The bytes and words themselves.
-#[derive(Clone, Copy, Debug)]
+#[derive(Clone, Copy, Debug, PartialEq, Eq)]
 pub enum TextRefusal {
     // a byte that no text may have
     ForbiddenByte { place: usize },
@@ -15,29 +17,25 @@ pub enum TextRefusal {
 }
 
 impl TextRefusal {
-    pub fn number(&self) -> u8
-        ensures { result ≡ text_number self.now }
+    // What it is reported by.
+    pub fn cause(&self) -> Cause
+        ensures { result ≡ text_cause self.now }
     {
-        match self {
-            TextRefusal::ForbiddenByte { .. } => 1,
-            TextRefusal::MalformedWord { .. } => 2,
-            TextRefusal::BracketsTooDeep { .. } => 3,
-        }
-    }
-
-    pub fn place(&self) -> usize
-        ensures { result ≡ text_place self.now }
-    {
-        match self {
-            TextRefusal::ForbiddenByte { place } => *place,
-            TextRefusal::MalformedWord { place } => *place,
-            TextRefusal::BracketsTooDeep { place } => *place,
+        let (number, place) = match *self {
+            TextRefusal::ForbiddenByte { place } => (1, place),
+            TextRefusal::MalformedWord { place } => (2, place),
+            TextRefusal::BracketsTooDeep { place } => (3, place),
+        };
+        Cause {
+            layer: Layer::Text,
+            number,
+            place,
         }
     }
 }
 
 // The order in which words may stand.
-#[derive(Clone, Copy, Debug)]
+#[derive(Clone, Copy, Debug, PartialEq, Eq)]
 pub enum FormRefusal {
     // a bracket, a word or a line end where something else is due
     Misplaced { place: usize },
@@ -48,29 +46,25 @@ pub enum FormRefusal {
 }
 
 impl FormRefusal {
-    pub fn number(&self) -> u8
-        ensures { result ≡ form_number self.now }
+    // What it is reported by.
+    pub fn cause(&self) -> Cause
+        ensures { result ≡ form_cause self.now }
     {
-        match self {
-            FormRefusal::Misplaced { .. } => 4,
-            FormRefusal::UnknownWord { .. } => 5,
-            FormRefusal::WrongOperandCount { .. } => 6,
-        }
-    }
-
-    pub fn place(&self) -> usize
-        ensures { result ≡ form_place self.now }
-    {
-        match self {
-            FormRefusal::Misplaced { place } => *place,
-            FormRefusal::UnknownWord { place } => *place,
-            FormRefusal::WrongOperandCount { place } => *place,
+        let (number, place) = match *self {
+            FormRefusal::Misplaced { place } => (4, place),
+            FormRefusal::UnknownWord { place } => (5, place),
+            FormRefusal::WrongOperandCount { place } => (6, place),
+        };
+        Cause {
+            layer: Layer::Form,
+            number,
+            place,
         }
     }
 }
 
 // What a text says of its circuit.
-#[derive(Clone, Copy, Debug)]
+#[derive(Clone, Copy, Debug, PartialEq, Eq)]
 pub enum CircuitRefusal {
     // a name that no line has
     UnknownName { place: usize },
@@ -83,31 +77,26 @@ pub enum CircuitRefusal {
 }
 
 impl CircuitRefusal {
-    pub fn number(&self) -> u8
-        ensures { result ≡ circuit_number self.now }
+    // What it is reported by.
+    pub fn cause(&self) -> Cause
+        ensures { result ≡ circuit_cause self.now }
     {
-        match self {
-            CircuitRefusal::UnknownName { .. } => 7,
-            CircuitRefusal::NameTaken { .. } => 8,
-            CircuitRefusal::LimitPassed { .. } => 9,
-            CircuitRefusal::EndsEarly { .. } => 10,
-        }
-    }
-
-    pub fn place(&self) -> usize
-        ensures { result ≡ circuit_place self.now }
-    {
-        match self {
-            CircuitRefusal::UnknownName { place } => *place,
-            CircuitRefusal::NameTaken { place } => *place,
-            CircuitRefusal::LimitPassed { place } => *place,
-            CircuitRefusal::EndsEarly { place } => *place,
+        let (number, place) = match *self {
+            CircuitRefusal::UnknownName { place } => (7, place),
+            CircuitRefusal::NameTaken { place } => (8, place),
+            CircuitRefusal::LimitPassed { place } => (9, place),
+            CircuitRefusal::EndsEarly { place } => (10, place),
+        };
+        Cause {
+            layer: Layer::Circuit,
+            number,
+            place,
         }
     }
 }
 
 // Faults and the folder of entries.
-#[derive(Clone, Copy, Debug)]
+#[derive(Clone, Copy, Debug, PartialEq, Eq)]
 pub enum FolderRefusal {
     NoSuchLine,
     NoSuchPin,
@@ -130,10 +119,11 @@ pub enum FolderRefusal {
 }
 
 impl FolderRefusal {
-    pub fn number(&self) -> u8
-        ensures { result ≡ folder_number self.now }
+    // What it is reported by, at place 0: a call without text has none.
+    pub fn cause(&self) -> Cause
+        ensures { result ≡ folder_cause self.now }
     {
-        match self {
+        let number = match self {
             FolderRefusal::NoSuchLine => 11,
             FolderRefusal::NoSuchPin => 12,
             FolderRefusal::LevelAboveOne => 13,
@@ -147,6 +137,11 @@ impl FolderRefusal {
             FolderRefusal::EntryNotFewest => 21,
             FolderRefusal::LevelNotDriven => 22,
             FolderRefusal::InputMissing => 23,
+        };
+        Cause {
+            layer: Layer::Folder,
+            number,
+            place: 0,
         }
     }
 }
