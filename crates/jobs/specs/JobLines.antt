@@ -112,7 +112,7 @@ module _ (names : List (Option (List ℕ))) (chosen : Bool) where
   word_step fault_name word n = cond (name_shape word) (name_found n (line_named names word)) (malformed n)
   word_step (fault_pin line) word n = cond (number_shape word) (Go (fault_level line (number_value word))) (malformed n)
   word_step (fault_level line pin) word n =
-      cond (number_shape word) (Go (line_close (job.Fault line pin (number_value word)))) (malformed n)
+      cond (number_shape word) (Go (line_close (job.Fault (record { line = line; pin = pin; level = number_value word })))) (malformed n)
   word_step (line_close job) word n = cond (name_shape word) (misplaced n) (malformed n)
   word_step (line_end job) word n = cond (name_shape word) (misplaced n) (malformed n)
 

@@ -3,6 +3,7 @@ ghost use Rattle.std.specs.Prelude.{Some};
 ghost use Rattle.jobs.specs.Kinds.{kind_text};
 ghost use Rattle.jobs.specs.JobLines.{NamesKind, NamesHead};
 
+use faults::StuckAt;
 use std::fmt;
 
 // A value kind, by its name.
@@ -21,9 +22,7 @@ pub enum Job {
     },
     // enter a stuck-at fault
     Fault {
-        line: usize,
-        pin: usize,
-        level: usize,
+        fault: StuckAt,
     },
     // list the entries
     List,

@@ -8,8 +8,9 @@ ghost use Rattle.jobs.specs.declared.job.Job.TheVariants as asked;
 use crate::job::{Head, Job, Kind};
 use crate::numbers::expect_number;
 use circuit::Circuit;
+use faults::StuckAt;
 use refusals::{CircuitRefusal, FormRefusal, Refusal};
-use words::{Lexer, PlacedWord, Token, expect_closing, expect_feed, expect_word};
+use words::{Lexer, Mark, PlacedWord, Token, expect_mark, expect_word};
 
 // A job line that is being read: what is left of its text, the circuit whose lines it may name, and whether a kind was chosen.
 #[derive(Clone, Copy)]
@@ -70,7 +71,8 @@ impl JobReader<'_> {
         let line = self.fault_line()?;
         let pin = expect_number(self.lexer.next_token())?;
         let level = expect_number(self.lexer.next_token())?;
-        Ok(Job::Fault { line, pin, level })
+        let fault = StuckAt { line, pin, level };
+        Ok(Job::Fault { fault })
     }
 
     // The job, from its head to before its closing bracket.
@@ -91,10 +93,10 @@ impl JobReader<'_> {
     pub fn line_rest(&mut self) -> Result<usize, Refusal>
         ensures { (job : JobModel) → Leads (at (line_close job) self.old) result (λ next. Asked job next) }
     {
-        expect_closing(self.lexer.next_token())?;
+        expect_mark(self.lexer.next_token(), Mark::Closing)?;
         match self.lexer.next_token() {
             Token::TextEnd { place } => Ok(place),
-            end => Ok(expect_feed(end)? + 1),
+            end => Ok(expect_mark(end, Mark::LineEnd)? + 1),
         }
     }
 }

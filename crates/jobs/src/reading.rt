@@ -10,7 +10,7 @@ use crate::job::JobLine;
 use crate::parts::JobReader;
 use circuit::Circuit;
 use refusals::Refusal;
-use words::{Lexer, Token, expect_opening};
+use words::{Lexer, Mark, Token, expect_mark};
 
 // Reads the job line that begins at that place of the text: the job, and where the next line begins; nothing where only
 // spaces are left. `chosen` says whether a kind was chosen.
@@ -27,7 +27,7 @@ pub fn read_job(
     if let Token::TextEnd { .. } = token {
         return Ok(None);
     }
-    expect_opening(token)?;
+    expect_mark(token, Mark::Opening)?;
     let mut reader = JobReader {
         lexer,
         circuit,

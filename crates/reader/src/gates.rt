@@ -10,15 +10,12 @@ ghost use Rattle.reader.specs.Reading.{Pending, operator, operand, full, with_op
 ghost use Rattle.reader.specs.Parsing.{ahead, so_far, at, resumed, Leads, InGates};
 
 use crate::parser::Parser;
-use circuit::{Gate, Op};
+use circuit::{Gate, MOST_LINES, Op};
 use refusals::{CircuitRefusal, FormRefusal, Refusal, TextRefusal};
 use words::{PlacedWord, Token, expect_word};
 
 // The most brackets that are open together.
 const MOST_BRACKETS: usize = 8;
-
-// The most inputs and gates of a circuit.
-const MOST_LINES: usize = 512;
 
 // A token where no more than `allowed` brackets may be opened.
 fn within_brackets(token: Token<'_>, allowed: usize) -> Result<Token<'_>, Refusal>
@@ -44,7 +41,7 @@ impl Parser<'_> {
     fn has_all_lines(&self) -> bool
         ensures { result ≡ nat_le 512 (line_count (so_far self.now)) }
     {
-        self.line_count() >= MOST_LINES
+        self.tables.line_count() >= MOST_LINES
     }
 
     // The operator of a gate; `allowed` more brackets may be opened.
@@ -54,10 +51,8 @@ impl Parser<'_> {
     {
         let token = within_brackets(self.next(), allowed)?;
         let PlacedWord { bytes, place } = expect_word(token)?;
-        match Op::named(bytes) {
-            Some(op) => Ok(op),
-            None => Err(FormRefusal::UnknownWord { place }.into()),
-        }
+        let op = Op::try_from(bytes).map_err(|_| FormRefusal::UnknownWord { place })?;
+        Ok(op)
     }
 
     // The gate is complete: it gets the next line number.
@@ -71,7 +66,7 @@ impl Parser<'_> {
         if self.has_all_lines() {
             return Err(CircuitRefusal::LimitPassed { place }.into());
         }
-        let line = self.line_count();
+        let line = self.tables.line_count();
         self.tables.gates.push(Gate {
             name: None,
             op,

@@ -6,18 +6,16 @@ ghost use Rattle.refusals.specs.declared.layers.CircuitRefusal.TheVariants.{Ends
 ghost use Rattle.words.specs.Expected.{is_closing, is_name_word};
 ghost use Rattle.words.specs.Lexemes.{Word, TextEnd, lexeme, is_end};
 ghost use Rattle.words.specs.Spelling.{name_shape};
-ghost use Rattle.circuit.specs.Model.{names, line_named, line_count};
+ghost use Rattle.circuit.specs.Model.{names, line_named};
 ghost use Rattle.circuit.specs.Tables.{name_bytes};
 ghost use Rattle.reader.specs.Reading.{Granted, inputs_line, inputs_head, input_name, line_end, next_line, next_head, gate_name, gate_begin, operator, gate_line_close, output_name, outputs_end, is_head, taken, step};
 ghost use Rattle.reader.specs.Parsing.{ahead, so_far, at, resumed, Leads, Advances, is_new_name, not_new, after_head};
 
 use crate::head::Head;
 use crate::parser::Parser;
-use circuit::Name;
+use circuit::{MOST_INPUTS, MOST_OUTPUTS, Name};
 use refusals::{CircuitRefusal, FormRefusal, Refusal};
-use words::{PlacedWord, Token, expect_closing, expect_feed, expect_opening, expect_word};
-
-pub const MOST_NAMES: usize = 64;
+use words::{Mark, PlacedWord, Token, expect_mark, expect_word};
 
 // The words that lines begin with.
 const INPUTS: &[u8] = b"inputs";
@@ -54,7 +52,7 @@ impl Parser<'_> {
         ensures moves { OnOk result (length (ahead self.new) < length (ahead self.old)) }
     {
         let token = before_end(self.next())?;
-        expect_opening(token)?;
+        expect_mark(token, Mark::Opening)?;
         Ok(())
     }
 
@@ -63,7 +61,7 @@ impl Parser<'_> {
         ensures { Advances line_end self.old result (λ _. next_line) self.new }
     {
         let token = before_end(self.next())?;
-        expect_feed(token)?;
+        expect_mark(token, Mark::LineEnd)?;
         Ok(())
     }
 
@@ -78,18 +76,11 @@ impl Parser<'_> {
         }
     }
 
-    // Inputs and gates so far.
-    pub fn line_count(&self) -> usize
-        ensures { result ≡ line_count (so_far self.now) }
-    {
-        self.tables.inputs.len() + self.tables.gates.len()
-    }
-
     // The line of that name, if one was read.
     pub fn line_named(&self, word: &[u8]) -> Option<usize>
         ensures { result ≡ line_named (names (so_far self.now)) word.now }
     {
-        self.tables.named_below(self.line_count(), word)
+        self.tables.named_below(self.tables.line_count(), word)
     }
 
     // The word that is due and names no line yet.
@@ -109,11 +100,12 @@ impl Parser<'_> {
         ensures same { ahead self.new ≡ ahead self.old }
         ensures word { OnOk result (is_name_word (lexeme token.entry) ≡ true) }
     {
-        let PlacedWord { bytes, place } = self.expect_new_name(token)?;
-        if self.tables.inputs.len() >= MOST_NAMES {
+        let word = self.expect_new_name(token)?;
+        if self.tables.inputs.len() >= MOST_INPUTS {
+            let place = word.place;
             return Err(CircuitRefusal::LimitPassed { place }.into());
         }
-        let name = Name::new(self.heap, bytes)?.unwrap();
+        let name = Name::from_word(self.heap, word)?;
         self.tables.inputs.push(name)?;
         Ok(())
     }
@@ -152,14 +144,14 @@ impl Parser<'_> {
     {
         let token = self.next();
         let word = self.expect_new_name(token)?;
-        Ok(Name::new(self.heap, word.bytes)?.unwrap())
+        Ok(Name::from_word(self.heap, word)?)
     }
 
     // The opening bracket of a line's gate.
     pub fn gate_begin(&mut self) -> Result<(), Refusal>
         ensures { (name : List ℕ) → Advances (gate_begin name) self.old result (λ _. operator name []) self.new }
     {
-        expect_opening(self.next())?;
+        expect_mark(self.next(), Mark::Opening)?;
         Ok(())
     }
 
@@ -167,7 +159,7 @@ impl Parser<'_> {
     pub fn gate_line_close(&mut self, name: Name) -> Result<(), Refusal>
         ensures { Advances (gate_line_close (name_bytes name)) self.old result (λ _. line_end) self.new }
     {
-        expect_closing(self.next())?;
+        expect_mark(self.next(), Mark::Closing)?;
         if let Some(gate) = self.tables.gates.last_mut() {
             gate.name = Some(name);
         }
@@ -187,7 +179,7 @@ impl Parser<'_> {
         if self.tables.lists(line) {
             return Err(CircuitRefusal::NameTaken { place }.into());
         }
-        if self.tables.outputs.len() >= MOST_NAMES {
+        if self.tables.outputs.len() >= MOST_OUTPUTS {
             return Err(CircuitRefusal::LimitPassed { place }.into());
         }
         self.tables.outputs.push(line)?;
@@ -215,7 +207,7 @@ impl Parser<'_> {
     {
         match self.next() {
             Token::TextEnd { place } => Ok(place),
-            token => Ok(expect_feed(token)? + 1),
+            token => Ok(expect_mark(token, Mark::LineEnd)? + 1),
         }
     }
 }
