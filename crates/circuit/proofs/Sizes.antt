@@ -15,14 +15,8 @@ module _ (t : Tables) where
   pub gates_count : length (tables_model t).gates ≡ vec_len t.gates
   gates_count = length-map (vec_items t.gates) gate_model ∙ sym t.gates.ok.0
 
-  pub outputs_count : length (tables_model t).outputs ≡ vec_len t.outputs
-  outputs_count = sym t.outputs.ok.0
-
   pub lines_count : line_count (tables_model t) ≡ vec_len t.inputs + vec_len t.gates
   lines_count = ap (λ (n : ℕ). n + length (tables_model t).gates) inputs_count ∙ ap (λ (n : ℕ). vec_len t.inputs + n) gates_count
-
-  pub names_count : length (names (tables_model t)) ≡ vec_len t.inputs + vec_len t.gates
-  names_count = names_length (tables_model t) ∙ lines_count
 
 -- a circuit has at most 64 inputs
 pub few_inputs : (t : Tables) → lawful (tables_model t) ≡ true → vec_len t.inputs ≤ 64

@@ -19,9 +19,7 @@ impl Gate {
     fn fits(&self, line: usize) -> bool
         ensures { result ≡ gate_fits line (gate_model self.now) }
     {
-        let count = self.operands.len();
-        self.op.fewest() <= count
-            && count <= self.op.most()
+        (self.op.fewest()..=self.op.most()).contains(&self.operands.len())
             && self.operands.iter().all(|operand| *operand < line)
     }
 }
@@ -47,10 +45,8 @@ impl Tables {
     fn is_unclaimed(&self, line: usize) -> bool
         ensures { result ≡ unclaimed (take line (names (tables_model self.now))) (slice_index_or (names (tables_model self.now)) line None) }
     {
-        match self.line_name(line) {
-            Some(name) => self.named_below(line, name.bytes()).is_none(),
-            None => true,
-        }
+        self.line_name(line)
+            .is_none_or(|name| self.named_below(line, name.bytes()).is_none())
     }
 
     fn names_differ(&self) -> bool

@@ -28,6 +28,7 @@ fn run_end(text: &[u8], from: usize, class: ByteClass) -> usize
 }
 
 // The token that begins right at `place`, and the place after it.
+#[tactic(auto, using(crate::proofs::Runs::byte_step, crate::proofs::Runs::word_at))]
 fn token_at<'a>(text: &'a [u8], place: usize) -> (Token<'a>, usize)
     requires within { place ≤ length text.now }
     requires begins { place < length text.now → class (slice_index text.now place) ≢ Space }
@@ -72,6 +73,7 @@ impl<'a> Lexer<'a> {
     }
 
     // The next word, bracket or line end; at the text's end that end, again and again.
+    #[tactic(auto, using(crate::proofs::Runs::spaces_skipped, crate::proofs::Runs::no_space, crate::proofs::Taken::took, crate::proofs::Taken::fewer_left))]
     pub fn next_token(&mut self) -> Token<'a>
         ensures taken { left self.old ≡ lexeme result ∷ onward (lexeme result) (left self.new) }
         ensures fewer { length (left self.new) ≤ length (left self.old) }
