@@ -35,7 +35,10 @@ pub fn listing(heap: Global, folder: &Folder) -> Result<String, Refusal>
         };
         write!(text, "{line}")?;
     }
-    let tested = entries.iter().filter(|entry| is_tested(entry.state())).count();
+    let tested = entries
+        .iter()
+        .filter(|entry| is_tested(entry.state()))
+        .count();
     let total = entries.len();
     write!(text, "(coverage {tested} {total})\n")?;
     Ok(text)

@@ -26,12 +26,11 @@ impl fmt::Display for Reply {
             Reply::Entered { number } => write!(f, "(entry {number})\n"),
             Reply::Listing { text } => f.write_str(text.as_str()),
             Reply::Refused {
-                cause:
-                    Cause {
-                        layer,
-                        number,
-                        place,
-                    },
+                cause: Cause {
+                    layer,
+                    number,
+                    place,
+                },
             } => write!(f, "(refused {layer} {number} {place})\n"),
         }
     }

@@ -2,10 +2,8 @@
 use Rattle.std.specs.Prelude.{ℕ, ◌+◌, min, Bool, true, false, not, List, length, drop, is_some, is_ok, Some, None, Ok, Err, Option, Result, ◌==◌}
 use Rattle.std.specs.List.{prefix_len}
 use Rattle.refusals.specs.declared.cause.Cause.{Cause}
-use Rattle.refusals.specs.declared.cause.Layer.TheVariants as layer
 use Rattle.refusals.specs.declared.layers.FolderRefusal.{FolderRefusal}
-use Rattle.refusals.specs.Causes.{cause_of}
-use Rattle.refusals.specs.Numbers.{folder_number}
+use Rattle.refusals.specs.Causes.{cause_of, folder_cause}
 use Rattle.words.specs.Lexemes.{lexemes_from}
 use Rattle.circuit.specs.Model.{names}
 use Rattle.folder.specs.Entries.{Entry}
@@ -46,23 +44,23 @@ abbrev pub line_after : List ℕ → ℕ → ℕ
 line_after text n = min (n + prefix_len is_no_feed (drop n text) + 1) (length text)
 
 -- a refusal by the folder has the place of its line
-abbrev pub folder_cause : FolderRefusal → ℕ → Cause
-folder_cause e place = record { layer = layer.Folder; number = folder_number e; place = place }
+abbrev pub cause_at : FolderRefusal → ℕ → Cause
+cause_at e place = record (folder_cause e) { place = place }
 
 abbrev pub entered_answer : Session → ℕ → ℕ → Result (Granted ℕ) FolderRefusal → Answered
 entered_answer s place next (Ok g) = record { output = entered_line g.answer; next = next; session = with_table s g.table }
-entered_answer s place next (Err e) = record { output = refused_line (folder_cause e place); next = next; session = s }
+entered_answer s place next (Err e) = record { output = refused_line (cause_at e place); next = next; session = s }
 
 -- what a job that was read does
 abbrev pub job_answer : Session → ℕ → Job → ℕ → Answered
 job_answer s place (job.Kind k) next = record { output = kind_line k; next = next; session = with_kind s k }
-job_answer s place (job.Fault line pin level) next = entered_answer s place next (enter_fault s.folder line pin level)
+job_answer s place (job.Fault asked) next = entered_answer s place next (enter_fault s.folder asked.line asked.pin asked.level)
 job_answer s place job.List next = record { output = listing s.folder.circuit s.folder.table; next = next; session = s }
 
 -- the jobs that take memory: a fault that is entered, and a listing
 abbrev pub job_stores : Session → Job → Bool
 job_stores s (job.Kind k) = false
-job_stores s (job.Fault line pin level) = is_ok (enter_fault s.folder line pin level)
+job_stores s (job.Fault asked) = is_ok (enter_fault s.folder asked.line asked.pin asked.level)
 job_stores s job.List = true
 
 abbrev pub outcome_stores : Session → Outcome → Bool

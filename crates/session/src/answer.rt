@@ -10,9 +10,10 @@ use crate::entering::enter;
 use crate::lines::line_after;
 use crate::reply::Answer;
 use crate::session::Session;
+use faults::StuckAt;
 use folder::Folder;
 use jobs::{Job, JobLine, Kind, read_job};
-use refusals::{Cause, Layer, Refusal};
+use refusals::{Cause, Refusal};
 use replies::Reply;
 use replies::listing::listing;
 use std::alloc::Global;
@@ -26,24 +27,17 @@ impl Session {
     }
 
     // Enters the fault, or says why not; a refusal by the folder has the place of the job's line.
-    fn enter(
-        &mut self,
-        place: usize,
-        line: usize,
-        pin: usize,
-        level: usize,
-    ) -> Result<Reply, Refusal>
-        ensures { MatchResult result (λ reply. (next : ℕ) → replied reply next (session_model self.new) ≡ entered_answer (session_model self.old) place next (enter_fault (session_model self.old).folder line pin level)) (λ e. (e ≡ Memory) × (session_model self.new ≡ session_model self.old) × (is_ok (enter_fault (session_model self.old).folder line pin level) ≡ true)) }
+    fn enter(&mut self, place: usize, fault: StuckAt) -> Result<Reply, Refusal>
+        ensures { MatchResult result (λ reply. (next : ℕ) → replied reply next (session_model self.new) ≡ entered_answer (session_model self.old) place next (enter_fault (session_model self.old).folder fault.line fault.pin fault.level)) (λ e. (e ≡ Memory) × (session_model self.new ≡ session_model self.old) × (is_ok (enter_fault (session_model self.old).folder fault.line fault.pin fault.level) ≡ true)) }
     {
         // a fault job is read only once a kind was chosen
         let kind = self.kind.unwrap_or(Kind::Nine);
-        match enter(&mut self.folder, kind, line, pin, level) {
+        match enter(&mut self.folder, kind, fault) {
             Ok(number) => Ok(Reply::Entered { number }),
             Err(Refusal::Folder(refusal)) => Ok(Reply::Refused {
                 cause: Cause {
-                    layer: Layer::Folder,
-                    number: refusal.number(),
                     place,
+                    ..refusal.cause()
                 },
             }),
             Err(other) => Err(other),
@@ -59,7 +53,7 @@ impl Session {
                 self.kind = Some(kind);
                 Reply::Kind { kind }
             }
-            Job::Fault { line, pin, level } => self.enter(place, line, pin, level)?,
+            Job::Fault { fault } => self.enter(place, fault)?,
             Job::List => Reply::Listing {
                 text: listing(heap, &self.folder)?,
             },

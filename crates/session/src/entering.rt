@@ -6,6 +6,7 @@ ghost use Rattle.law.specs.declared.call.Call.TheVariants as asked;
 ghost use Rattle.law.specs.Histories.{event_of, Step};
 ghost use Rattle.session.specs.Kinds.{kind_of};
 
+use faults::StuckAt;
 use folder::Folder;
 use jobs::Kind;
 use law::{Call, Outcome, perform};
@@ -16,17 +17,11 @@ use values::nine::Nine;
 use values::seven::Seven;
 
 // Enters the fault under that kind. Entering works out no line, so the row has no place.
-fn enter_under(
-    folder: &mut Folder,
-    kind: Kind,
-    line: usize,
-    pin: usize,
-    level: usize,
-) -> Result<Outcome, Refusal>
-    ensures step { Step (kind_of kind) (folder_model folder.old).circuit (event_of (asked.Enter line pin level) 0 result) (folder_model folder.old).table (folder_model folder.new).table }
+fn enter_under(folder: &mut Folder, kind: Kind, fault: StuckAt) -> Result<Outcome, Refusal>
+    ensures step { Step (kind_of kind) (folder_model folder.old).circuit (event_of (asked.Enter fault) 0 result) (folder_model folder.old).table (folder_model folder.new).table }
     ensures circuit { folder.new.circuit ≡ folder.old.circuit }
 {
-    let call = Call::Enter { line, pin, level };
+    let call = Call::Enter { fault };
     let mut socket = Socket::new();
     match kind {
         Kind::Five => perform::<Five>(folder, call, &mut socket, &mut []),
@@ -36,19 +31,12 @@ fn enter_under(
 }
 
 // Enters the fault and answers the number of its entry, or says why not.
-pub fn enter(
-    folder: &mut Folder,
-    kind: Kind,
-    line: usize,
-    pin: usize,
-    level: usize,
-) -> Result<usize, Refusal>
-    ensures value { Follows (enter_fault (folder_model folder.old) line pin level) (folder_model folder.old).table result (folder_model folder.new).table }
+pub fn enter(folder: &mut Folder, kind: Kind, fault: StuckAt) -> Result<usize, Refusal>
+    ensures value { Follows (enter_fault (folder_model folder.old) fault.line fault.pin fault.level) (folder_model folder.old).table result (folder_model folder.new).table }
     ensures circuit { folder.new.circuit ≡ folder.old.circuit }
 {
-    match enter_under(folder, kind, line, pin, level) {
-        Ok(Outcome::Entered { number }) => Ok(number),
-        Ok(Outcome::Searched { .. } | Outcome::Covered { .. }) => unreachable(),
-        Err(refusal) => Err(refusal),
+    match enter_under(folder, kind, fault)? {
+        Outcome::Entered { number } => Ok(number),
+        Outcome::Searched { .. } | Outcome::Covered { .. } => unreachable(),
     }
 }
