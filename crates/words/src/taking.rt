@@ -73,7 +73,7 @@ impl<'a> Lexer<'a> {
     }
 
     // The next word, bracket or line end; at the text's end that end, again and again.
-    #[tactic(auto, using(crate::proofs::Runs::spaces_skipped, crate::proofs::Runs::no_space, crate::proofs::Taken::took, crate::proofs::Taken::fewer_left))]
+    #[tactic(auto, using(crate::proofs::Runs::spaces_skipped, crate::proofs::Runs::no_space))]
     pub fn next_token(&mut self) -> Token<'a>
         ensures taken { left self.old ≡ lexeme result ∷ onward (lexeme result) (left self.new) }
         ensures fewer { length (left self.new) ≤ length (left self.old) }
