@@ -1,11 +1,10 @@
 -- The names of lines, by place, and one step of the search for a name.
-use Rattle.std.proofs.Common.{zero, take, [], ◌∷◌, ◌≡◌, ℕ, suc, ◌+◌, ◌-◌, ◌<◌, ◌≤◌, Bool, true, false, cond, ◌⊎◌, List, map, length, get_or, Some, None, vec_items, vec_len, Option, sym, refl, ap, ◌∙◌, inl, inr, add-zero, zero-add, arith}
+use Rattle.std.proofs.Common.{zero, take, [], ◌∷◌, ◌≡◌, ℕ, suc, ◌+◌, ◌-◌, ◌<◌, ◌≤◌, List, map, length, get_or, Some, None, vec_items, vec_len, Option, sym, refl, ap, ◌∙◌, zero-add, arith}
 use Rattle.std.proofs.lemmas.List.{get_or_append_left, get_or-append_right, get_or-map, get_or_past, length-map, length-append}
 use Rattle.std.proofs.Math.Seq.{take-nil}
-use Rattle.std.proofs.lemmas.Bool.{le-ltb}
 use Rattle.std.proofs.lemmas.Option.{slice_get_cases}
 use Rattle.std.specs.Option.{option_map, option_and_then}
-use Rattle.std.specs.List.{find, range_with_len, slice_get}
+use Rattle.std.specs.List.{find, range_with_len}
 use Rattle.circuit.specs.declared.name.Name.{Name}
 use Rattle.circuit.specs.declared.tables.Tables.{Tables}
 use Rattle.circuit.specs.Model.{Gate, Circuit, names, has_name, line_named, gate_at}
