@@ -16,9 +16,11 @@ use circuit::{MOST_INPUTS, MOST_OUTPUTS, Name};
 use refusals::{CircuitRefusal, FormRefusal, Refusal};
 use words::{Mark, PlacedWord, Token, expect_mark, expect_word};
 
-// The words that lines begin with.
+// The words that lines begin with. They are compared by `==`: a match on literals as long as these gets no proof.
 const INPUTS: &[u8] = b"inputs";
+
 const GATE: &[u8] = b"gate";
+
 const OUTPUTS: &[u8] = b"outputs";
 
 // A token of a circuit of which more must come: the text may not end here.
@@ -102,7 +104,8 @@ impl Parser<'_> {
         Ok(())
     }
 
-    // The names of an inputs line, to its closing bracket.
+    // The names of an inputs line, to its closing bracket. The loop of the outputs line is as this one; a loop for both would
+    // take the step as a closure over the parser, with a contract of its own.
     pub fn input_names(&mut self) -> Result<(), Refusal>
         ensures { Leads (at input_name self.old) result (λ _. at line_end self.new) }
     {
@@ -193,7 +196,8 @@ impl Parser<'_> {
         }
     }
 
-    // The end of the outputs line, and of the circuit: the place where the rest of the text begins.
+    // The end of the outputs line, and of the circuit: the place where the rest of the text begins. A job line ends alike, but
+    // a function for both would have to require that the place after the token fits, which `next` says of it.
     pub fn outputs_end(&mut self) -> Result<usize, Refusal>
         ensures { Leads (at outputs_end self.old) result (λ place. Granted (so_far self.new) place) }
     {
