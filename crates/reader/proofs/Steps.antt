@@ -1,19 +1,16 @@
 -- Steps of the definition, at the words that the reader has tested.
-use Rattle.std.proofs.Common.{◌≡◌, ℕ, zero, suc, ◌+◌, ◌<◌, ◌≤◌, Bool, true, false, cond, eqb, leb, List, [], ◌∷◌, ◌++◌, map, length, get_or, set, IfOk, Some, Ok, Err, vec_items, vec_len, Result, MatchResult, sym, refl, ap, ◌∙◌, arith}
-use Rattle.std.proofs.lemmas.List.{map_push, map-set, get_or-map, length-map}
-use Rattle.std.proofs.lemmas.Bool.{le-leb, lt-leb, le-ltb}
+use Rattle.std.proofs.Common.{◌≡◌, ℕ, zero, suc, ◌+◌, ◌<◌, false, leb, List, [], ◌∷◌, map, length, get_or, set, Some, Err, vec_items, vec_len, Result, MatchResult, sym, refl, ap, ◌∙◌, arith}
+use Rattle.std.proofs.lemmas.List.{map-set, get_or-map, length-map}
+use Rattle.std.proofs.lemmas.Bool.{lt-leb}
 use Rattle.refusals.specs.declared.cause.Refusal.{Refusal}
-use Rattle.refusals.specs.declared.cause.Refusal.TheVariants as refusal
-use Rattle.refusals.specs.declared.layers.CircuitRefusal.TheVariants.{LimitPassed}
 use Rattle.words.specs.Left.{onward}
-use Rattle.words.specs.Lexemes.{Lexeme, Opening, Closing, Word, LineEnd, TextEnd, Forbidden, lexemes}
-use Rattle.words.specs.Spelling.{name_shape}
+use Rattle.words.specs.Lexemes.{Lexeme, Opening, Closing, Word, LineEnd, TextEnd, Forbidden}
 use Rattle.circuit.specs.declared.name.Name.{Name}
 use Rattle.circuit.specs.declared.gate.Gate as code
 use Rattle.circuit.specs.declared.tables.Tables.{Tables}
-use Rattle.circuit.specs.Model.{Circuit, Gate, line_count}
+use Rattle.circuit.specs.Model.{Circuit, Gate}
 use Rattle.circuit.specs.Tables.{name_bytes, gate_model, tables_model}
-use Rattle.reader.specs.Reading.{Due, inputs_line, input_name, line_end, operator, operand, Pending, full, too_few, closing_step, gate_made, made_gate, misplaced, Step, Go, Stop, Outcome, Refused, run, empty, reading, taken, limit_passed, with_input, with_gate, last_named, step}
+use Rattle.reader.specs.Reading.{Due, operator, operand, Pending, full, Step, Go, Stop, Outcome, run, taken, last_named, step}
 use Rattle.reader.specs.declared.parser.Parser.{Parser}
 use Rattle.reader.specs.Parsing.{ahead, so_far, at, resumed, Refuses, Leads}
 
