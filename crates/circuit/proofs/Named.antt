@@ -1,43 +1,32 @@
 -- The names of lines, by place, and one step of the search for a name.
-use Rattle.std.proofs.Common.{zero, take, [], ◌∷◌, ◌≡◌, ℕ, suc, ◌+◌, ◌-◌, ◌<◌, ◌≤◌, Bool, true, false, cond, ◌⊎◌, List, map, length, get_or, Some, None, vec_items, vec_len, Option, sym, refl, ap, ◌∙◌, inl, inr, add-zero, zero-add, arith}
+use Rattle.std.proofs.Common.{zero, take, [], ◌∷◌, ◌≡◌, ℕ, suc, ◌+◌, ◌-◌, ◌<◌, ◌≤◌, List, map, length, get_or, Some, None, vec_items, vec_len, Option, sym, refl, ap, ◌∙◌, zero-add, arith}
 use Rattle.std.proofs.lemmas.List.{get_or_append_left, get_or-append_right, get_or-map, get_or_past, length-map, length-append}
 use Rattle.std.proofs.Math.Seq.{take-nil}
-use Rattle.std.proofs.lemmas.Bool.{le-ltb}
 use Rattle.std.proofs.lemmas.Option.{slice_get_cases}
 use Rattle.std.specs.Option.{option_map, option_and_then}
-use Rattle.std.specs.List.{find, range_with_len, slice_get}
+use Rattle.std.specs.List.{find, range_with_len}
 use Rattle.circuit.specs.declared.name.Name.{Name}
 use Rattle.circuit.specs.declared.tables.Tables.{Tables}
 use Rattle.circuit.specs.Model.{Gate, Circuit, names, has_name, line_named, gate_at}
 use Rattle.circuit.specs.Tables.{name_bytes, tables_model}
 
--- the search by number over the lines below `count`, from line k on, where `named` gives the names of the lines
+-- the search by number over `count` lines from line k on, where `named` gives the names of the lines
 search_from : (named : ℕ → Option (List ℕ)) (word : List ℕ) (count k : ℕ) (ns : List (Option (List ℕ))) → ((i : ℕ) → named (k + i) ≡ get_or ns i None)
     → find (λ line. has_name word (named line)) (range_with_len k count) ≡ option_map (λ m. k + m) (line_named (take count ns) word)
 search_from named word zero k ns h = refl
 search_from named word (suc count) k [] h =
-    ap (λ (b : Bool). cond b (Some k) (find (λ line. has_name word (named line)) (range_with_len (k + 1) count))) (ap (has_name word) (ap named (sym (add-zero k)) ∙ h 0))
-    ∙ search_from named word count (k + 1) [] (λ i. ap named (omega arith) ∙ h (suc i))
-    ∙ ap (λ (ns : List (Option (List ℕ))). option_map (λ m. k + 1 + m) (line_named ns word)) (take-nil count)
+    let rest = search_from named word count (k + 1) [] (λ i. ap named (omega arith) ∙ h (suc i)) in
+    let here = h 0 in
+    grind (arith, take-nil)
 search_from named word (suc count) k (n ∷ ns) h =
-    ap (λ (b : Bool). cond b (Some k) (find (λ line. has_name word (named line)) (range_with_len (k + 1) count))) (ap (has_name word) (ap named (sym (add-zero k)) ∙ h 0))
-    ∙ ap (λ (o : Option ℕ). cond (has_name word n) (Some k) o) (search_from named word count (k + 1) ns (λ i. ap named (omega arith) ∙ h (suc i)))
-    ∙ one_more k (has_name word n) (line_named (take count ns) word)
-  where
-    one_more : (k : ℕ) (b : Bool) (o : Option ℕ) → cond b (Some k) (option_map (λ m. k + 1 + m) o) ≡ option_map (λ m. k + m) (cond b (Some 0) (option_map suc o))
-    one_more k true o = ap Some (sym (add-zero k))
-    one_more k false None = refl
-    one_more k false (Some m) = ap Some (omega arith)
-
-from_zero : (o : Option ℕ) → option_map (λ m. 0 + m) o ≡ o
-from_zero None = refl
-from_zero (Some m) = ap Some (zero-add m)
+    let rest = search_from named word count (k + 1) ns (λ i. ap named (omega arith) ∙ h (suc i)) in
+    let here = h 0 in
+    grind arith
 
 pub searched : (ns : List (Option (List ℕ))) (word : List ℕ) (count : ℕ) → find (λ line. has_name word (get_or ns line None)) (range_with_len 0 count) ≡ line_named (take count ns) word
-searched ns word count = search_from (λ i. get_or ns i None) word count 0 ns (λ i. ap (λ (j : ℕ). get_or ns j None) (zero-add i)) ∙ from_zero (line_named (take count ns) word)
-
-gate_past : (c : Circuit) (i : ℕ) → length c.inputs ≤ i → gate_at c i ≡ slice_get c.gates (i - length c.inputs)
-gate_past c i h = ap (λ (b : Bool). cond b None (slice_get c.gates (i - length c.inputs))) (le-ltb i (length c.inputs) h)
+searched ns word count =
+    let all = search_from (λ i. get_or ns i None) word count 0 ns (λ i. ap (λ (j : ℕ). get_or ns j None) (zero-add i)) in
+    grind arith
 
 module _ (c : Circuit) where
   pub names_length : length (names c) ≡ length c.inputs + length c.gates
@@ -57,14 +46,8 @@ module _ (c : Circuit) where
   past_named i h = get_or_past (names c) i None (rw names_length h)
 
   -- the name of a line that is no input
-  pub past_inputs : (i : ℕ) (o : Option Gate) → length c.inputs ≤ i → gate_at c i ≡ o → get_or (names c) i None ≡ option_and_then (λ (g : Gate). g.name) o
-  past_inputs i o h e = go (slice_get_cases c.gates (i - length c.inputs)).1 (sym (gate_past c i h) ∙ e)
-    where
-      go : ((x : Gate) × (i - length c.inputs < length c.gates) × (slice_get c.gates (i - length c.inputs) ≡ Some x) × (get_or c.gates (i - length c.inputs) x ≡ x))
-          ⊎ ((length c.gates ≤ i - length c.inputs) × (slice_get c.gates (i - length c.inputs) ≡ None))
-          → slice_get c.gates (i - length c.inputs) ≡ o → get_or (names c) i None ≡ option_and_then (λ (g : Gate). g.name) o
-      go (inl p) s = gate_named i p.0 h p.1 ∙ ap (λ (g : Gate). g.name) p.3 ∙ ap (option_and_then (λ (g : Gate). g.name)) (sym p.2 ∙ s)
-      go (inr p) s = past_named i (omega (arith, p.0)) ∙ ap (option_and_then (λ (g : Gate). g.name)) (sym p.1 ∙ s)
+  past_inputs : (i : ℕ) (o : Option Gate) → length c.inputs ≤ i → gate_at c i ≡ o → get_or (names c) i None ≡ option_and_then (λ (g : Gate). g.name) o
+  past_inputs i o h e = grind (arith, slice_get_cases c.gates (i - length c.inputs), past_named i, gate_named i)
 
 pub mapped_twice : {X Y Z : Type 0} (f : Y → Z) (g : X → Y) (o : Option X) → option_map (λ (x : X). f (g x)) o ≡ option_map f (option_map g o)
 mapped_twice f g None = refl

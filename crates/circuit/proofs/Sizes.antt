@@ -3,10 +3,9 @@ use Rattle.std.proofs.Common.{◌≡◌, ℕ, ◌+◌, ◌≤◌, true, leb, len
 use Rattle.std.proofs.lemmas.List.{length-map}
 use Rattle.std.proofs.lemmas.Bool.{and_parts, leb-true}
 use Rattle.circuit.specs.declared.tables.Tables.{Tables}
-use Rattle.circuit.specs.Model.{names, line_count}
+use Rattle.circuit.specs.Model.{line_count}
 use Rattle.circuit.specs.Lawful.{between, lawful}
 use Rattle.circuit.specs.Tables.{name_bytes, gate_model, tables_model}
-use Rattle.circuit.proofs.Named.{names_length}
 
 module _ (t : Tables) where
   pub inputs_count : length (tables_model t).inputs ≡ vec_len t.inputs

@@ -1,5 +1,5 @@
 // What a gate does with its operands.
-ghost use Rattle.std.specs.Prelude.{◌≡◌, Some};
+ghost use Rattle.std.specs.Prelude.{◌≡◌, Some, codes};
 ghost use Rattle.circuit.specs.Ops.{op_word, Named, fewest_operands, most_operands};
 
 use std::error::Error;
@@ -61,6 +61,8 @@ impl fmt::Display for Op {
 }
 
 impl fmt::Display for UnknownOp {
+    ghost output = { λ _. Some (codes "the word names no operator") };
+
     fn fmt<W: fmt::Write>(&self, f: &mut fmt::Formatter<W>) -> fmt::Result {
         f.write_str("the word names no operator")
     }

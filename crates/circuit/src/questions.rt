@@ -34,6 +34,7 @@ impl Tables {
     }
 
     // The name of a line, if there is such a line and it has one.
+    #[tactic(auto, using(crate::proofs::Named::input_name_at))]
     pub(crate) fn line_name(&self, line: usize) -> Option<&Name>
         ensures { option_map (λ n. name_bytes n.now) result ≡ slice_index_or (names (tables_model self.now)) line None }
     {

@@ -1,4 +1,4 @@
--- Tests over lists.
+-- Tests over lists: the library's, under shorter names.
 use Rattle.std.specs.Prelude.{Bool, List}
 use Rattle.std.specs.List.{list_all, list_any}
 

@@ -38,10 +38,10 @@ fn token_at<'a>(text: &'a [u8], place: usize) -> (Token<'a>, usize)
     ensures forward { is_end (lexeme result.0) ≡ false → place < result.1 }
     ensures again { is_end (lexeme result.0) ≡ true → lexemes_from text.now result.1 ≡ lexeme result.0 ∷ [] }
 {
-    if place == text.len() {
+    let Some(byte) = text.get(place) else {
         return (Token::TextEnd { place }, place);
-    }
-    match class_of(text[place]) {
+    };
+    match class_of(*byte) {
         ByteClass::InWord => {
             let end = run_end(text, place, ByteClass::InWord);
             (
@@ -73,7 +73,7 @@ impl<'a> Lexer<'a> {
     }
 
     // The next word, bracket or line end; at the text's end that end, again and again.
-    #[tactic(auto, using(crate::proofs::Runs::spaces_skipped, crate::proofs::Runs::no_space, crate::proofs::Taken::took, crate::proofs::Taken::fewer_left))]
+    #[tactic(auto, using(crate::proofs::Runs::spaces_skipped, crate::proofs::Runs::no_space))]
     pub fn next_token(&mut self) -> Token<'a>
         ensures taken { left self.old ≡ lexeme result ∷ onward (lexeme result) (left self.new) }
         ensures fewer { length (left self.new) ≤ length (left self.old) }

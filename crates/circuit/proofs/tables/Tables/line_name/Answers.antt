@@ -3,14 +3,8 @@ use Rattle.std.specs.Option.{option_map}
 use Rattle.circuit.specs.declared.gate.Gate as code
 use Rattle.circuit.specs.declared.name.Name.{Name}
 use Rattle.circuit.specs.Tables.{name_bytes, gate_model}
-use Rattle.circuit.proofs.Named.{input_name_at, gate_name_at, mapped_twice}
+use Rattle.circuit.proofs.Named.{gate_name_at, mapped_twice}
 use Rattle.circuit.proofs.tables.Tables.line_name.Goals as goal
-
-pub returns-in-Some : goal.returns-in-Some
-returns-in-Some c =
-    let told = c.in-Some.ensures.lookup in
-    let t = c.args.self.now in
-    input_name_at t c.args.line c.in-Some.name.now (omega (arith, told.3.0, ap length c.deref.ensures.value, t.inputs.ok.0)) (cc told.1)
 
 pub returns-in_err-gate-in-None : goal.returns-in_err-gate-in-None
 returns-in_err-gate-in-None c =
