@@ -36,9 +36,8 @@ fn every_byte(rt: HostRuntime) -> Result<(), Fail> {
         let (number, place) = alone(byte);
         expect_refused(&rt, heap, &[byte], number, place)?;
         let (number, place) = inside_a_name(byte);
-        let text = [
-            b'(', b'i', b'n', b'p', b'u', b't', b's', b' ', b'a', byte, b'b', b')',
-        ];
+        let mut text = *b"(inputs a?b)";
+        text[9] = byte;
         expect_refused(&rt, heap, &text, number, place)?;
     }
     Ok(())

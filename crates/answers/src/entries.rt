@@ -1,33 +1,22 @@
 // Both sides of the limit on entries, and what wins where two refusals fit.
+use crate::expect::{circuit_of, with_gates};
 use circuit::Circuit;
 use folder::Folder;
-use reader::read;
 use refusals::Refusal;
 use std::alloc::Global;
-use std::fmt::Write;
 use std::process::Abort;
 use std::test::Fail;
 
 // A circuit with 257 lines: one input, and as many inverters of it as are needed.
 fn wide_circuit(heap: Global) -> Result<Circuit, Fail> {
-    let mut text = String::from_str(heap, "(inputs a)\n")?;
-    for k in 0..256 {
-        write!(text, "(gate g{k} (not a))\n")?;
-    }
+    let mut text = with_gates(heap, 256)?;
     text.push_str("(outputs g0)\n")?;
-    let mut circuit = Circuit::blank(heap)?;
-    let _ = read(heap, text.as_bytes(), &mut circuit)?;
-    Ok(circuit)
+    Ok(circuit_of(heap, text.as_str())?)
 }
 
-fn expect_number(rt: &impl Abort, answer: Result<usize, Refusal>, number: u8) -> Result<(), Fail> {
-    match answer {
-        Ok(_) => Err(Fail::new("entered")),
-        Err(refusal) => {
-            assert_eq!(rt; refusal.cause().ok_or("no memory")?.number, number);
-            Ok(())
-        },
-    }
+fn expect_number(rt: &impl Abort, answer: Result<usize, Refusal>, number: u8) {
+    let cause = answer.err().and_then(|refusal| refusal.cause());
+    assert_eq!(rt; cause.map(|cause| cause.number), Some(number));
 }
 
 #[test]
@@ -39,11 +28,11 @@ fn five_hundred_and_twelve_entries(rt: HostRuntime) -> Result<(), Fail> {
         assert_eq!(rt; folder.enter(line, 0, 1)?, 2 * line + 1);
     }
     assert_eq!(rt; folder.entries().len(), 512);
-    expect_number(&rt, folder.enter(256, 0, 0), 15)?;
-    expect_number(&rt, folder.enter(0, 0, 0), 14)?;
-    expect_number(&rt, folder.enter(257, 0, 0), 11)?;
-    expect_number(&rt, folder.enter(256, 2, 0), 12)?;
-    expect_number(&rt, folder.enter(256, 1, 2), 13)?;
+    expect_number(&rt, folder.enter(256, 0, 0), 15);
+    expect_number(&rt, folder.enter(0, 0, 0), 14);
+    expect_number(&rt, folder.enter(257, 0, 0), 11);
+    expect_number(&rt, folder.enter(256, 2, 0), 12);
+    expect_number(&rt, folder.enter(256, 1, 2), 13);
     assert_eq!(rt; folder.entries().len(), 512);
     Ok(())
 }

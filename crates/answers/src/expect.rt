@@ -1,79 +1,93 @@
 // One text and its answer.
 use circuit::Circuit;
 use reader::read;
-use refusals::{Layer, Refusal};
-use std::alloc::Global;
+use refusals::{Cause, Layer, Refusal};
+use std::alloc::{AllocError, Global};
+use std::fmt::Write;
 use std::process::Abort;
-use std::str;
 use std::test::Fail;
+use std::{fmt, str};
 
-// A text that is refused: the text, the number and the place.
+// A text that is refused, the number and the place. (The fields have no names, so that each case is one row of its table.)
 #[derive(Clone, Copy)]
 pub struct Refused(pub &'static str, pub u8, pub usize);
 
-// How large a circuit is: its inputs, its lines and its outputs.
-#[derive(Clone, Copy)]
-pub struct Size(pub usize, pub usize, pub usize);
-
-// A circuit with two inputs, a gate and two outputs: what is read next has something to replace.
-fn other_circuit(heap: Global) -> Result<Circuit, Refusal> {
-    let mut circuit = Circuit::blank(heap)?;
-    let _ = read(
-        heap,
-        b"(inputs p q)\n(gate r (and p q))\n(outputs r q)\n",
-        &mut circuit,
-    )?;
-    Ok(circuit)
+// How large a circuit is.
+#[derive(Clone, Copy, Debug, PartialEq, Eq)]
+pub struct Size {
+    pub inputs: usize,
+    pub lines: usize,
+    pub outputs: usize,
 }
 
-fn layer_number(layer: Layer) -> u8 {
-    match layer {
-        Layer::Text => 1,
-        Layer::Form => 2,
-        Layer::Circuit => 3,
-        Layer::Folder => 4,
+// How large this circuit is.
+fn size_of(circuit: &Circuit) -> Size {
+    Size {
+        inputs: circuit.input_count(),
+        lines: circuit.line_count(),
+        outputs: circuit.outputs().len(),
     }
 }
 
-// The layer that a refusal of that number is of: 1 to 3 the text, 4 to 6 the form, 7 to 10 the circuit.
-fn layer_of(number: u8) -> u8 {
+// The circuit of a text that is granted.
+pub fn circuit_of(heap: Global, text: &str) -> Result<Circuit, Refusal> {
+    let mut circuit = Circuit::blank(heap)?;
+    let _ = read(heap, text.as_bytes(), &mut circuit)?;
+    Ok(circuit)
+}
+
+// A circuit with two inputs, a gate and two outputs: what is read next has something to replace.
+fn other_circuit(heap: Global) -> Result<Circuit, Refusal> {
+    circuit_of(heap, "(inputs p q)\n(gate r (and p q))\n(outputs r q)\n")
+}
+
+// One input and the gates g0, g1 and so on, of one line each.
+pub fn with_gates(heap: Global, count: usize) -> Result<String, AllocError> {
+    let mut text = String::from_str(heap, "(inputs a)\n")?;
+    for k in 0..count {
+        write!(text, "(gate g{k} (not a))\n")?;
+    }
+    Ok(text)
+}
+
+// The layer that a refusal of that number is of.
+fn layer_of(number: u8) -> Layer {
     match number {
-        1..=3 => 1,
-        4..=6 => 2,
-        7..=10 => 3,
-        _ => 4,
+        1..=3 => Layer::Text,
+        4..=6 => Layer::Form,
+        7..=10 => Layer::Circuit,
+        _ => Layer::Folder,
     }
 }
 
 // What a message shows of a text: how it begins and how it ends, and the first bytes as numbers.
 #[derive(Clone, Copy)]
-struct Shown<'a>(&'a str, &'a str, &'a [u8]);
+struct Shown<'a>(&'a [u8]);
 
-fn as_text(bytes: &[u8]) -> &str {
-    match str::from_utf8(bytes) {
-        Ok(text) => text,
-        Err(_) => "bytes that are no text",
+impl fmt::Display for Shown<'_> {
+    fn fmt<W: fmt::Write>(&self, f: &mut fmt::Formatter<W>) -> fmt::Result {
+        let Shown(text) = *self;
+        let start = as_text(&text[..text.len().min(60)]);
+        let end = as_text(&text[text.len().saturating_sub(60)..]);
+        let bytes = &text[..text.len().min(12)];
+        write!(f, "{start} .. {end} {bytes:?}")
     }
 }
 
-fn ends_of(text: &[u8]) -> Shown<'_> {
-    let (start, _) = text.split_at(text.len().min(60));
-    let (_, end) = text.split_at(text.len().saturating_sub(60));
-    let (bytes, _) = text.split_at(text.len().min(12));
-    Shown(as_text(start), as_text(end), bytes)
+fn as_text(bytes: &[u8]) -> &str {
+    str::from_utf8(bytes).unwrap_or("bytes that are no text")
 }
 
-pub fn expect_blank(rt: &impl Abort, circuit: &Circuit, text: &[u8]) -> Result<(), Fail> {
-    let Shown(start, end, bytes) = ends_of(text);
-    assert_eq!(rt; circuit.line_count(), 1, "{start} .. {end} {bytes:?}");
-    assert_eq!(rt; circuit.input_count(), 1, "{start} .. {end} {bytes:?}");
-    assert_eq!(rt;
-        circuit.line_named(b"a"),
-        Some(0),
-        "{start} .. {end} {bytes:?}"
-    );
-    assert_eq!(rt; circuit.outputs(), &[0][..], "{start} .. {end} {bytes:?}");
-    Ok(())
+pub fn expect_blank(rt: &impl Abort, circuit: &Circuit, text: &[u8]) {
+    let blank = Size {
+        inputs: 1,
+        lines: 1,
+        outputs: 1,
+    };
+    let text = Shown(text);
+    assert_eq!(rt; size_of(circuit), blank, "{text}");
+    assert_eq!(rt; circuit.line_named(b"a"), Some(0), "{text}");
+    assert_eq!(rt; circuit.outputs(), [0].as_slice(), "{text}");
 }
 
 // The text is refused by that number at that place, and leaves the blank circuit.
@@ -85,29 +99,25 @@ pub fn expect_refused(
     place: usize,
 ) -> Result<(), Fail> {
     let mut circuit = other_circuit(heap)?;
-    let Shown(start, end, bytes) = ends_of(text);
+    let shown = Shown(text);
     match read(heap, text, &mut circuit) {
-        Ok(_) => {
-            assert!(rt; false, "granted: {start} .. {end} {bytes:?}");
-            Ok(())
-        },
+        Ok(_) => panic!(rt; "granted: {shown}"),
         Err(refusal) => {
-            let cause = refusal.cause().ok_or("no memory")?;
-            assert_eq!(rt; cause.number, number, "{start} .. {end} {bytes:?}");
-            assert_eq!(rt; cause.place, place, "{start} .. {end} {bytes:?}");
-            assert_eq!(rt;
-                layer_number(cause.layer),
-                layer_of(number),
-                "{start} .. {end} {bytes:?}"
-            );
-            expect_blank(rt, &circuit, text)
+            let cause = Cause {
+                layer: layer_of(number),
+                number,
+                place,
+            };
+            assert_eq!(rt; refusal.cause(), Some(cause), "{shown}");
+            expect_blank(rt, &circuit, text);
         }
     }
+    Ok(())
 }
 
 pub fn expect_all_refused(rt: &impl Abort, heap: Global, cases: &[Refused]) -> Result<(), Fail> {
-    for case in cases {
-        expect_refused(rt, heap, case.0.as_bytes(), case.1, case.2)?;
+    for Refused(text, number, place) in cases {
+        expect_refused(rt, heap, text.as_bytes(), *number, *place)?;
     }
     Ok(())
 }
@@ -121,20 +131,12 @@ pub fn expect_granted(
     place: usize,
 ) -> Result<(), Fail> {
     let mut circuit = other_circuit(heap)?;
-    let Shown(start, end, bytes) = ends_of(text);
+    let shown = Shown(text);
     let Ok(rest) = read(heap, text, &mut circuit) else {
-        assert!(rt; false, "refused: {start} .. {end} {bytes:?}");
-        return Ok(());
+        panic!(rt; "refused: {shown}")
     };
-    assert_eq!(rt; rest.place, place, "{start} .. {end} {bytes:?}");
-    assert!(rt; place <= text.len(), "{start} .. {end} {bytes:?}");
-    assert_eq!(rt; rest.bytes, &text[place..], "{start} .. {end} {bytes:?}");
-    assert_eq!(rt; circuit.input_count(), size.0, "{start} .. {end} {bytes:?}");
-    assert_eq!(rt; circuit.line_count(), size.1, "{start} .. {end} {bytes:?}");
-    assert_eq!(rt;
-        circuit.outputs().len(),
-        size.2,
-        "{start} .. {end} {bytes:?}"
-    );
+    assert_eq!(rt; rest.place, place, "{shown}");
+    assert_eq!(rt; Some(rest.bytes), text.get(place..), "{shown}");
+    assert_eq!(rt; size_of(&circuit), size, "{shown}");
     Ok(())
 }

@@ -1,9 +1,9 @@
 // Both sides of each limit.
-use crate::expect::{Size, expect_granted, expect_refused};
+use crate::expect::{Refused, Size, circuit_of, expect_granted, expect_refused, with_gates};
 use circuit::Circuit;
-use reader::read;
 use std::alloc::Global;
 use std::fmt::Write;
+use std::ops::Range;
 use std::process::Abort;
 use std::test::Fail;
 
@@ -25,15 +25,13 @@ const OPERATORS: [Takes; 8] = [
 // A gate with that many operands: too few are refused at its closing bracket, too many at the first that is too many.
 fn expect_count(rt: &impl Abort, heap: Global, operator: Takes, count: usize) -> Result<(), Fail> {
     let Takes(word, fewest, most) = operator;
-    let mut text = String::from_str(heap, "(inputs a)\n(gate y (")?;
-    text.push_str(word)?;
-    let mut one_too_many = 0;
-    for k in 0..count {
-        text.push_str(" ")?;
-        if k == most {
-            one_too_many = text.len();
-        }
-        text.push_str("a")?;
+    let mut text = format!(in heap; "(inputs a)\n(gate y ({word}")?;
+    for _ in 0..count.min(most) {
+        text.push_str(" a")?;
+    }
+    let one_too_many = text.len() + 1;
+    for _ in most..count {
+        text.push_str(" a")?;
     }
     let closing = text.len();
     text.push_str("))\n(outputs y)\n")?;
@@ -42,7 +40,11 @@ fn expect_count(rt: &impl Abort, heap: Global, operator: Takes, count: usize) ->
     } else if count > most {
         expect_refused(rt, heap, text.as_bytes(), 6, one_too_many)
     } else {
-        let size = Size(1, 2, 1);
+        let size = Size {
+            inputs: 1,
+            lines: 2,
+            outputs: 1,
+        };
         expect_granted(rt, heap, text.as_bytes(), size, text.len())
     }
 }
@@ -50,28 +52,24 @@ fn expect_count(rt: &impl Abort, heap: Global, operator: Takes, count: usize) ->
 #[test]
 fn operands_of_each_operator(rt: HostRuntime) -> Result<(), Fail> {
     let heap = rt.alloc();
-    for operator in &OPERATORS {
+    for operator in OPERATORS {
         for count in 0..11 {
-            expect_count(&rt, heap, *operator, count)?;
+            expect_count(&rt, heap, operator, count)?;
         }
     }
     Ok(())
 }
 
-// What follows a long front: refused by that number at that place of the whole text.
-#[derive(Clone, Copy)]
-struct Ending(&'static str, u8, usize);
-
+// Texts with the same front: what follows it, the number and the place in the whole text.
 fn expect_endings(
     rt: &impl Abort,
     heap: Global,
     front: &str,
-    endings: &[Ending],
+    endings: &[Refused],
 ) -> Result<(), Fail> {
-    for ending in endings {
-        let mut text = String::from_str(heap, front)?;
-        text.push_str(ending.0)?;
-        expect_refused(rt, heap, text.as_bytes(), ending.1, ending.2)?;
+    for Refused(ending, number, place) in endings {
+        let text = format!(in heap; "{front}{ending}")?;
+        expect_refused(rt, heap, text.as_bytes(), *number, *place)?;
     }
     Ok(())
 }
@@ -84,8 +82,7 @@ fn expect_ending_granted(
     size: Size,
     place: usize,
 ) -> Result<(), Fail> {
-    let mut text = String::from_str(heap, front)?;
-    text.push_str(ending)?;
+    let text = format!(in heap; "{front}{ending}")?;
     expect_granted(rt, heap, text.as_bytes(), size, place)
 }
 
@@ -98,15 +95,15 @@ fn push_names(text: &mut String) -> Result<(), Fail> {
 }
 
 // Behind 64 inputs, at byte 253.
-const AFTER_INPUTS: [Ending; 8] = [
-    Ending(" n64)\n(outputs n0)\n", 9, 254),
-    Ending(" a", 9, 254),
-    Ending(" n0)\n", 8, 254),
-    Ending(" n63)\n", 8, 254),
-    Ending(" 64)\n", 2, 254),
-    Ending(" abcdefghi)\n", 2, 254),
-    Ending(" ?)\n", 1, 254),
-    Ending(" (n64)\n", 4, 254),
+const AFTER_INPUTS: [Refused; 8] = [
+    Refused(" n64)\n(outputs n0)\n", 9, 254),
+    Refused(" a", 9, 254),
+    Refused(" n0)\n", 8, 254),
+    Refused(" n63)\n", 8, 254),
+    Refused(" 64)\n", 2, 254),
+    Refused(" abcdefghi)\n", 2, 254),
+    Refused(" ?)\n", 1, 254),
+    Refused(" (n64)\n", 4, 254),
 ];
 
 #[test]
@@ -116,21 +113,25 @@ fn sixty_four_inputs(rt: HostRuntime) -> Result<(), Fail> {
     push_names(&mut front)?;
     assert_eq!(rt; front.len(), 253);
     expect_endings(&rt, heap, front.as_str(), &AFTER_INPUTS)?;
-    let size = Size(64, 64, 1);
+    let size = Size {
+        inputs: 64,
+        lines: 64,
+        outputs: 1,
+    };
     expect_ending_granted(&rt, heap, front.as_str(), ")\n(outputs n63)\n", size, 269)
 }
 
 // Behind 64 outputs, at byte 527: there are 64 inputs and the gate g.
-const AFTER_OUTPUTS: [Ending; 9] = [
-    Ending(" g)\n", 9, 528),
-    Ending(" g", 9, 528),
-    Ending(" n0)\n", 8, 528),
-    Ending(" n63)\n", 8, 528),
-    Ending(" n64)\n", 7, 528),
-    Ending(" 64)\n", 2, 528),
-    Ending(" abcdefghi)\n", 2, 528),
-    Ending(" ?)\n", 1, 528),
-    Ending(" (g)\n", 4, 528),
+const AFTER_OUTPUTS: [Refused; 9] = [
+    Refused(" g)\n", 9, 528),
+    Refused(" g", 9, 528),
+    Refused(" n0)\n", 8, 528),
+    Refused(" n63)\n", 8, 528),
+    Refused(" n64)\n", 7, 528),
+    Refused(" 64)\n", 2, 528),
+    Refused(" abcdefghi)\n", 2, 528),
+    Refused(" ?)\n", 1, 528),
+    Refused(" (g)\n", 4, 528),
 ];
 
 #[test]
@@ -142,44 +143,43 @@ fn sixty_four_outputs(rt: HostRuntime) -> Result<(), Fail> {
     push_names(&mut front)?;
     assert_eq!(rt; front.len(), 527);
     expect_endings(&rt, heap, front.as_str(), &AFTER_OUTPUTS)?;
-    let size = Size(64, 65, 64);
+    let size = Size {
+        inputs: 64,
+        lines: 65,
+        outputs: 64,
+    };
     expect_ending_granted(&rt, heap, front.as_str(), ")\n(list)\n", size, 529)?;
     expect_ending_granted(&rt, heap, front.as_str(), ")", size, 528)
 }
 
-// One input and the gates g0, g1 and so on, of one line each.
-fn with_gates(heap: Global, count: usize) -> Result<String, Fail> {
-    let mut text = String::from_str(heap, "(inputs a)\n")?;
-    for k in 0..count {
-        write!(text, "(gate g{k} (not a))\n")?;
-    }
-    Ok(text)
-}
-
 // Behind 511 lines, at byte 10,101.
-const AFTER_511_LINES: [Ending; 4] = [
-    Ending("(gate y (not (not a)))\n(outputs y)\n", 9, 10121),
-    Ending("(gate y (and (not a)))\n(outputs y)\n", 6, 10121),
-    Ending("(gate y (and (not a) (not a)))\n(outputs y)\n", 9, 10128),
-    Ending("(gate y (and (not a) (not y)))\n(outputs y)\n", 7, 10127),
+const AFTER_511_LINES: [Refused; 4] = [
+    Refused("(gate y (not (not a)))\n(outputs y)\n", 9, 10121),
+    Refused("(gate y (and (not a)))\n(outputs y)\n", 6, 10121),
+    Refused("(gate y (and (not a) (not a)))\n(outputs y)\n", 9, 10128),
+    Refused("(gate y (and (not a) (not y)))\n(outputs y)\n", 7, 10127),
 ];
 
 // Behind 512 lines, at byte 10,121.
-const AFTER_512_LINES: [Ending; 8] = [
-    Ending("(gate y (not a))\n(outputs y)\n", 9, 10135),
-    Ending("(gate y (and a (not a)))\n(outputs y)\n", 9, 10142),
-    Ending("(gate y (and a))\n(outputs y)\n", 6, 10135),
-    Ending("(gate y (not a a))\n(outputs y)\n", 6, 10136),
-    Ending("(gate y (not b))\n(outputs y)\n", 7, 10134),
-    Ending("(gate g0 (not a))\n(outputs y)\n", 8, 10127),
-    Ending("(gate y (nxor a a))\n(outputs y)\n", 5, 10130),
-    Ending("(gate y (not a\n(outputs y)\n", 4, 10135),
+const AFTER_512_LINES: [Refused; 8] = [
+    Refused("(gate y (not a))\n(outputs y)\n", 9, 10135),
+    Refused("(gate y (and a (not a)))\n(outputs y)\n", 9, 10142),
+    Refused("(gate y (and a))\n(outputs y)\n", 6, 10135),
+    Refused("(gate y (not a a))\n(outputs y)\n", 6, 10136),
+    Refused("(gate y (not b))\n(outputs y)\n", 7, 10134),
+    Refused("(gate g0 (not a))\n(outputs y)\n", 8, 10127),
+    Refused("(gate y (nxor a a))\n(outputs y)\n", 5, 10130),
+    Refused("(gate y (not a\n(outputs y)\n", 4, 10135),
 ];
 
 #[test]
 fn five_hundred_and_twelve_lines(rt: HostRuntime) -> Result<(), Fail> {
     let heap = rt.alloc();
-    let size = Size(1, 512, 1);
+    let size = Size {
+        inputs: 1,
+        lines: 512,
+        outputs: 1,
+    };
     let front = with_gates(heap, 510)?;
     assert_eq!(rt; front.len(), 10101);
     expect_endings(&rt, heap, front.as_str(), &AFTER_511_LINES)?;
@@ -197,7 +197,7 @@ fn five_hundred_and_twelve_lines(rt: HostRuntime) -> Result<(), Fail> {
     expect_ending_granted(&rt, heap, front.as_str(), "(outputs g510)\n", size, 10136)
 }
 
-// A front that is filled up with one character to so many bytes: refused by that number at that place.
+// A front, one character, the length to which the front is filled up with it, the number and the place.
 #[derive(Clone, Copy)]
 struct Filled(&'static str, &'static str, usize, u8, usize);
 
@@ -236,15 +236,19 @@ fn long_texts(rt: HostRuntime) -> Result<(), Fail> {
         fill(&rt, &mut text, filler, length)?;
         expect_refused(&rt, heap, text.as_bytes(), number, place)?;
     }
-    let size = Size(1, 1, 1);
+    let size = Size {
+        inputs: 1,
+        lines: 1,
+        outputs: 1,
+    };
     let mut text = String::from_str(heap, "(inputs a)\n(outputs a)\n")?;
     fill(&rt, &mut text, "?", 65536)?;
     expect_granted(&rt, heap, text.as_bytes(), size, 23)
 }
 
-// Names of 8 bytes for the lines of these numbers, each behind a space: n0000000, n0000001 and so on.
-fn push_lines(text: &mut String, from: usize, to: usize) -> Result<(), Fail> {
-    for line in from..to {
+// Names of 8 bytes for these lines, each behind a space: n0000000, n0000001 and so on.
+fn push_lines(text: &mut String, lines: Range<usize>) -> Result<(), Fail> {
+    for line in lines {
         write!(text, " n{line:07}")?;
     }
     Ok(())
@@ -253,18 +257,16 @@ fn push_lines(text: &mut String, from: usize, to: usize) -> Result<(), Fail> {
 // The largest circuit: 64 inputs, 448 gates that read the eight lines before them, and the last 64 lines as outputs.
 fn largest(heap: Global) -> Result<String, Fail> {
     let mut text = String::from_str(heap, "(inputs")?;
-    push_lines(&mut text, 0, 64)?;
-    text.push_str(")\n")?;
-    for first in 56..504usize {
-        text.push_str("(gate")?;
-        push_lines(&mut text, first + 8, first + 9)?;
-        text.push_str(" (xor")?;
-        push_lines(&mut text, first, first + 8)?;
-        text.push_str("))\n")?;
+    push_lines(&mut text, 0..64)?;
+    write!(text, ")\n")?;
+    for line in 64..512usize {
+        write!(text, "(gate n{line:07} (xor")?;
+        push_lines(&mut text, line - 8..line)?;
+        write!(text, "))\n")?;
     }
-    text.push_str("(outputs")?;
-    push_lines(&mut text, 448, 512)?;
-    text.push_str(")")?;
+    write!(text, "(outputs")?;
+    push_lines(&mut text, 448..512)?;
+    write!(text, ")")?;
     Ok(text)
 }
 
@@ -272,11 +274,8 @@ fn expect_largest(rt: &impl Abort, circuit: &Circuit) -> Result<(), Fail> {
     assert_eq!(rt; circuit.line_named(b"n0000511"), Some(511));
     let gate = circuit.gate(511).ok_or("no gate")?;
     let operands = [503, 504, 505, 506, 507, 508, 509, 510];
-    assert_eq!(rt; gate.operands.as_slice(), &operands[..]);
-    for (k, output) in circuit.outputs().iter().enumerate() {
-        assert!(rt; k < 64);
-        assert_eq!(rt; *output, k + 448);
-    }
+    assert_eq!(rt; gate.operands.as_slice(), operands.as_slice());
+    assert!(rt; circuit.outputs().iter().copied().eq(448..512));
     Ok(())
 }
 
@@ -286,12 +285,15 @@ fn largest_circuit(rt: HostRuntime) -> Result<(), Fail> {
     let heap = rt.alloc();
     let mut text = largest(heap)?;
     // an inputs line of 585 bytes, 448 gate lines of 94 and an outputs line of 585 without a line feed
-    expect_granted(&rt, heap, text.as_bytes(), Size(64, 512, 64), 43282)?;
+    let size = Size {
+        inputs: 64,
+        lines: 512,
+        outputs: 64,
+    };
+    expect_granted(&rt, heap, text.as_bytes(), size, 43282)?;
     fill(&rt, &mut text, " ", 65536)?;
-    expect_granted(&rt, heap, text.as_bytes(), Size(64, 512, 64), 65536)?;
-    let mut circuit = Circuit::blank(heap)?;
-    let _ = read(heap, text.as_bytes(), &mut circuit)?;
-    expect_largest(&rt, &circuit)?;
+    expect_granted(&rt, heap, text.as_bytes(), size, 65536)?;
+    expect_largest(&rt, &circuit_of(heap, text.as_str())?)?;
     text.push_str(" ")?;
     expect_refused(&rt, heap, text.as_bytes(), 9, 65536)
 }

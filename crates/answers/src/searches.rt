@@ -1,7 +1,6 @@
 // Searches whose answers were worked out beforehand, and covers, by the calls of the library.
-use circuit::Circuit;
+use crate::expect::circuit_of;
 use folder::{Folder, State};
-use reader::read;
 use simulator::Socket;
 use std::alloc::Global;
 use std::process::Abort;
@@ -20,12 +19,25 @@ const ABSORBED: &str = "(inputs a b)\n(gate p (and a b))\n(gate y (or a p))\n(ou
 const WIRE: &str = "(inputs a)\n(outputs a)\n";
 
 // How a search ended: the cube's driven word and level word, and the tries.
-#[derive(Clone, Copy)]
+#[derive(Clone, Copy, Debug, PartialEq, Eq)]
 enum Ended {
-    Fewest(u64, u64, usize),
-    Redundant(usize),
-    Spent(u64, u64, usize),
-    SpentWithNone(usize),
+    Fewest(u64, u64, u32),
+    Redundant(u32),
+    Spent(u64, u64, u32),
+    SpentWithNone(u32),
+}
+
+// How the search ended that left an entry in this state.
+fn end_of(state: State) -> Option<Ended> {
+    match state {
+        State::Fewest { cube, tries } => Some(Ended::Fewest(cube.driven(), cube.level(), tries)),
+        State::Redundant { tries } => Some(Ended::Redundant(tries)),
+        State::Spent { cube, tries } => Some(match cube {
+            Some(cube) => Ended::Spent(cube.driven(), cube.level(), tries),
+            None => Ended::SpentWithNone(tries),
+        }),
+        State::Open | State::Covered { .. } => None,
+    }
 }
 
 // A circuit, a fault by line, pin and level, a budget, and how the search ends.
@@ -61,39 +73,7 @@ const BY_FIVE: [Search; 4] = [
 ];
 
 fn folder_of(heap: Global, text: &str) -> Result<Folder, Fail> {
-    let mut circuit = Circuit::blank(heap)?;
-    let _ = read(heap, text.as_bytes(), &mut circuit)?;
-    Ok(Folder::new(heap, circuit))
-}
-
-fn expect_state(rt: &impl Abort, state: State, ended: Ended) {
-    match (state, ended) {
-        (State::Fewest { cube, tries }, Ended::Fewest(driven, level, count)) => {
-            assert_eq!(rt;
-                (cube.driven(), cube.level(), tries as usize),
-                (driven, level, count)
-            );
-        }
-        (State::Redundant { tries }, Ended::Redundant(count)) => {
-            assert_eq!(rt; tries as usize, count);
-        }
-        (
-            State::Spent {
-                cube: Some(cube),
-                tries,
-            },
-            Ended::Spent(driven, level, count),
-        ) => {
-            assert_eq!(rt;
-                (cube.driven(), cube.level(), tries as usize),
-                (driven, level, count)
-            );
-        }
-        (State::Spent { cube: None, tries }, Ended::SpentWithNone(count)) => {
-            assert_eq!(rt; tries as usize, count);
-        }
-        _ => assert!(rt; false, "another state"),
-    }
+    Ok(Folder::new(heap, circuit_of(heap, text)?))
 }
 
 fn expect_searches<V: ValueKind>(
@@ -104,14 +84,12 @@ fn expect_searches<V: ValueKind>(
 ) -> Result<(), Fail> {
     let mut socket = Socket::new();
     for search in searches {
-        let Search(text, [line, pin, level], budget, ended) = *search;
+        let Search(text, [line, pin, level], budget, end) = *search;
         let mut folder = folder_of(heap, text)?;
         let number = folder.enter(line, pin, level)?;
-        let Ok(_) = folder.search(number, budget, &mut socket, row) else {
-            return Err(Fail::new("refused"));
-        };
+        let _ = folder.search(number, budget, &mut socket, row)?;
         let entry = folder.entry(number).ok_or("no entry")?;
-        expect_state(rt, entry.state(), ended);
+        assert_eq!(rt; end_of(entry.state()), Some(end));
     }
     Ok(())
 }
@@ -119,12 +97,9 @@ fn expect_searches<V: ValueKind>(
 #[test]
 fn known_searches(rt: HostRuntime) -> Result<(), Fail> {
     let heap = rt.alloc();
-    let mut row = [Nine::unknown(); 7];
-    expect_searches(&rt, heap, &mut row, &BY_NINE)?;
-    let mut row = [Seven::unknown(); 7];
-    expect_searches(&rt, heap, &mut row, &BY_SEVEN)?;
-    let mut row = [Five::unknown(); 7];
-    expect_searches(&rt, heap, &mut row, &BY_FIVE)
+    expect_searches(&rt, heap, &mut [Nine::unknown(); 7], &BY_NINE)?;
+    expect_searches(&rt, heap, &mut [Seven::unknown(); 7], &BY_SEVEN)?;
+    expect_searches(&rt, heap, &mut [Five::unknown(); 7], &BY_FIVE)
 }
 
 // The cube 11 of an and gate's stuck input shows the stuck output too, and not an input stuck at 1.
@@ -137,12 +112,8 @@ fn covered_entries(rt: HostRuntime) -> Result<(), Fail> {
     let first = folder.enter(0, 0, 0)?;
     let output = folder.enter(2, 0, 0)?;
     let other = folder.enter(0, 0, 1)?;
-    let Ok(_) = folder.search(first, 1000, &mut socket, &mut row) else {
-        return Err(Fail::new("search refused"));
-    };
-    let Ok(marked) = folder.cover(first, &mut socket, &mut row) else {
-        return Err(Fail::new("cover refused"));
-    };
+    let _ = folder.search(first, 1000, &mut socket, &mut row)?;
+    let marked = folder.cover(first, &mut socket, &mut row)?;
     assert_eq!(rt; marked, 1);
     let entry = folder.entry(output).ok_or("no entry")?;
     assert!(rt; matches!(entry.state(), State::Covered { by } if by == first));

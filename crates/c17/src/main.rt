@@ -2,13 +2,16 @@
 // the kind nine. Then the verdicts of the three kinds on some cubes. The expected output comes from another simulator (docs/C17.md).
 #![tactic(auto)]
 
-use anyhow::{Context, anyhow};
+use anyhow::Context;
 use circuit::Circuit;
 use faults::{Cube, Fault};
 use reader::read;
 use refusals::FolderRefusal;
 use simulator::{Socket, Verdict, simulate_fault};
+use values::five::Five;
 use values::kind::ValueKind;
+use values::nine::Nine;
+use values::seven::Seven;
 
 const C17: &[u8] = b"(inputs n1 n2 n3 n6 n7)
 (gate n10 (nand n1 n3))
@@ -26,17 +29,53 @@ const LINES: usize = 11;
 
 // A fault by the name of its line.
 #[derive(Clone, Copy)]
-struct NamedFault(&'static str, usize, usize);
+struct NamedFault {
+    line: &'static str,
+    pin: usize,
+    level: usize,
+}
 
 const CUBE_FAULTS: [NamedFault; 8] = [
-    NamedFault("n1", 0, 1),
-    NamedFault("n3", 0, 0),
-    NamedFault("n3", 0, 1),
-    NamedFault("n6", 0, 1),
-    NamedFault("n11", 0, 0),
-    NamedFault("n16", 2, 0),
-    NamedFault("n19", 1, 1),
-    NamedFault("n22", 0, 0),
+    NamedFault {
+        line: "n1",
+        pin: 0,
+        level: 1,
+    },
+    NamedFault {
+        line: "n3",
+        pin: 0,
+        level: 0,
+    },
+    NamedFault {
+        line: "n3",
+        pin: 0,
+        level: 1,
+    },
+    NamedFault {
+        line: "n6",
+        pin: 0,
+        level: 1,
+    },
+    NamedFault {
+        line: "n11",
+        pin: 0,
+        level: 0,
+    },
+    NamedFault {
+        line: "n16",
+        pin: 2,
+        level: 0,
+    },
+    NamedFault {
+        line: "n19",
+        pin: 1,
+        level: 1,
+    },
+    NamedFault {
+        line: "n22",
+        pin: 0,
+        level: 0,
+    },
 ];
 
 const CUBES: [&str; 13] = [
@@ -45,64 +84,54 @@ const CUBES: [&str; 13] = [
 ];
 
 // The cube that is written so, an input a letter.
-fn cube_of(letters: &str) -> Result<Cube, FolderRefusal> {
-    let mut driven = 0;
-    let mut level = 0;
-    let mut bit = 1u64;
-    for letter in letters.bytes() {
-        if letter != b'x' {
-            driven |= bit;
-        }
-        if letter == b'1' {
-            level |= bit;
-        }
-        bit = bit.rotate_left(1);
-    }
-    Cube::new(driven, level)
+fn cube_of(letters: &str) -> Cube {
+    letters
+        .bytes()
+        .enumerate()
+        .filter(|&(_, letter)| letter != b'x')
+        .fold(Cube::nothing(), |cube, (input, letter)| {
+            cube.driving(input, letter == b'1')
+        })
 }
 
-fn five_verdict(circuit: &Circuit, fault: Fault, cube: Cube) -> Result<Verdict, FolderRefusal> {
-    let mut row = [<values::five::Five as ValueKind>::unknown(); LINES];
-    let mut socket = Socket::new();
-    simulate_fault(circuit, cube, fault, &mut socket, &mut row)
-}
-
-fn seven_verdict(circuit: &Circuit, fault: Fault, cube: Cube) -> Result<Verdict, FolderRefusal> {
-    let mut row = [<values::seven::Seven as ValueKind>::unknown(); LINES];
-    let mut socket = Socket::new();
-    simulate_fault(circuit, cube, fault, &mut socket, &mut row)
-}
-
-fn nine_verdict(circuit: &Circuit, fault: Fault, cube: Cube) -> Result<Verdict, FolderRefusal> {
-    let mut row = [<values::nine::Nine as ValueKind>::unknown(); LINES];
-    let mut socket = Socket::new();
-    simulate_fault(circuit, cube, fault, &mut socket, &mut row)
+// The verdict of a kind on a fault under a cube, worked out in a row of the kind's values.
+fn verdict<V: ValueKind>(
+    circuit: &Circuit,
+    fault: Fault,
+    cube: Cube,
+    row: &mut [V],
+) -> Result<Verdict, FolderRefusal> {
+    simulate_fault(circuit, cube, fault, &mut Socket::new(), row)
 }
 
 // One digit for each vector: 1 if it detects the fault.
-fn print_vectors(rt: &HostRuntime, circuit: &Circuit, fault: Fault) -> anyhow::Result<()> {
+fn print_vectors(rt: &impl Print, circuit: &Circuit, fault: Fault) -> anyhow::Result<()> {
     for vector in 0..(1u64 << INPUTS) {
-        let Ok(cube) = Cube::new((1 << INPUTS) - 1, vector) else {
-            return Err(anyhow!("no such cube"));
+        let cube = Cube::new((1 << INPUTS) - 1, vector)
+            .ok()
+            .context("no such cube")?;
+        let verdict = verdict(circuit, fault, cube, &mut [Nine::unknown(); LINES])
+            .ok()
+            .context("refused")?;
+        let digit = match verdict {
+            Verdict::Shows => '1',
+            Verdict::Still => '0',
+            Verdict::Unsure => '?',
         };
-        match nine_verdict(circuit, fault, cube) {
-            Ok(Verdict::Shows) => print!(rt; "1")?,
-            Ok(Verdict::Still) => print!(rt; "0")?,
-            Ok(Verdict::Unsure) => print!(rt; "?")?,
-            Err(_) => return Err(anyhow!("refused")),
-        }
+        print!(rt; "{digit}")?;
     }
     println!(rt; "")?;
     Ok(())
 }
 
 // The faults of a line: its pins in order, stuck at 0 and then at 1.
-fn print_line(rt: &HostRuntime, circuit: &Circuit, line: usize, pins: usize) -> anyhow::Result<()> {
-    for pin in 0..pins {
+fn print_line(rt: &impl Print, circuit: &Circuit, line: usize) -> anyhow::Result<()> {
+    let operands = circuit.gate(line).map_or(0, |gate| gate.operands.len());
+    for pin in 0..=operands {
         for level in 0..2 {
-            let Ok(fault) = Fault::new(circuit, line, pin, level) else {
-                return Err(anyhow!("no such fault"));
-            };
+            let fault = Fault::new(circuit, line, pin, level)
+                .ok()
+                .context("no such fault")?;
             match circuit.line_name(line) {
                 Some(name) => print!(rt; "{name} {pin} {level} ")?,
                 None => print!(rt; "none {pin} {level} ")?,
@@ -123,43 +152,37 @@ fn word(verdict: Result<Verdict, FolderRefusal>) -> &'static str {
 }
 
 // The verdicts of the three kinds on each cube.
-fn print_cubes(rt: &HostRuntime, circuit: &Circuit, named: NamedFault) -> anyhow::Result<()> {
-    let NamedFault(name, pin, level) = named;
+fn print_cubes(rt: &impl Print, circuit: &Circuit, named: NamedFault) -> anyhow::Result<()> {
+    let NamedFault {
+        line: name,
+        pin,
+        level,
+    } = named;
     let line = circuit.line_named(name.as_bytes()).context("no such line")?;
-    let Ok(fault) = Fault::new(circuit, line, pin, level) else {
-        return Err(anyhow!("no such fault"));
-    };
+    let fault = Fault::new(circuit, line, pin, level)
+        .ok()
+        .context("no such fault")?;
     for letters in &CUBES {
-        let Ok(cube) = cube_of(letters) else {
-            return Err(anyhow!("no such cube"));
-        };
-        let five = word(five_verdict(circuit, fault, cube));
-        let seven = word(seven_verdict(circuit, fault, cube));
-        let nine = word(nine_verdict(circuit, fault, cube));
+        let cube = cube_of(letters);
+        let five = word(verdict(circuit, fault, cube, &mut [Five::unknown(); LINES]));
+        let seven = word(verdict(circuit, fault, cube, &mut [Seven::unknown(); LINES]));
+        let nine = word(verdict(circuit, fault, cube, &mut [Nine::unknown(); LINES]));
         println!(rt; "{name} {pin} {level} {letters} {five} {seven} {nine}")?;
     }
     Ok(())
 }
 
-fn run(rt: &HostRuntime) -> anyhow::Result<()> {
+fn main(rt: HostRuntime) -> anyhow::Result<()> {
     let heap = rt.alloc();
     let mut circuit = Circuit::blank(heap)?;
-    let Ok(_) = read(heap, C17, &mut circuit) else {
-        return Err(anyhow!("the circuit is refused"));
-    };
+    read(heap, C17, &mut circuit)
+        .ok()
+        .context("the circuit is refused")?;
     for line in 0..circuit.line_count() {
-        let pins = match circuit.gate(line) {
-            Some(gate) => gate.operands.len().saturating_add(1),
-            None => 1,
-        };
-        print_line(rt, &circuit, line, pins)?;
+        print_line(&rt, &circuit, line)?;
     }
     for named in CUBE_FAULTS {
-        print_cubes(rt, &circuit, named)?;
+        print_cubes(&rt, &circuit, named)?;
     }
     Ok(())
-}
-
-fn main(rt: HostRuntime) -> anyhow::Result<()> {
-    run(&rt)
 }

@@ -1,10 +1,5 @@
-pub mod Places
-pub mod Joining
-pub mod Filling
-pub mod Judging
 pub mod Driving
 pub mod Rules
-pub mod Simulating
 pub mod Relating
 pub mod Readings
 pub mod Telling

@@ -1,30 +1,31 @@
--- What the rules of circuits say of simulation.
-use Rattle.std.proofs.Common.{◌≡◌, ℕ, ◌+◌, ◌≤◌, true, ltb, leb, List, [], ◌∷◌, ◌++◌, length, refl}
-use Rattle.std.proofs.lemmas.Bool.{and_parts, and_from, leb-true}
-use Rattle.words.specs.Lists.{every}
+-- What the rules of circuits say of one gate and of one output.
+use Rattle.std.proofs.Common.{◌≡◌, ℕ, zero, suc, ◌+◌, ◌<◌, Bool, true, ltb, List, [], ◌∷◌, ◌++◌, map, length, get_or, take, All, sym, ap, ◌∙◌, append_assoc, arith}
+use Rattle.std.proofs.lemmas.List.{append-nil, get_or-map, length-map, length-take-le}
+use Rattle.std.proofs.lemmas.Bool.{and_parts, ltb-true}
+use Rattle.circuit.specs.declared.gate.Gate as code
 use Rattle.circuit.specs.Model.{Gate, Circuit, line_count}
-use Rattle.circuit.specs.Lawful.{each_after, between, gate_fits, new_output, lawful}
+use Rattle.circuit.specs.Lawful.{each_after, gate_fits, new_output, lawful}
+use Rattle.circuit.specs.Tables.{gate_model}
 
--- the rules that a simulation leans on
-pub record Leans (c : Circuit) : Type 0 where
-  pub inputs : length c.inputs ≤ 64
-  pub gates : each_after (λ (before : List Gate). gate_fits (length c.inputs + length before)) [] c.gates ≡ true
-  pub outputs : every (λ (o : ℕ). ltb o (line_count c)) c.outputs ≡ true
+after_at : {X : Type 0} (right : List X → X → Bool) (before xs : List X) (i : ℕ) (d : X) → i < length xs → each_after right before xs ≡ true
+    → right (before ++ take i xs) (get_or xs i d) ≡ true
+after_at right before [] i d h e = absurd (omega arith)
+after_at right before (x ∷ xs) zero d h e = rw append-nil (and_parts (right before x) _ e).0
+after_at right before (x ∷ xs) (suc i) d h e =
+    rw append_assoc at (after_at right (before ++ (x ∷ [])) xs i d (omega arith) (and_parts (right before x) _ e).1)
 
-outputs_below : (lines : ℕ) (before outputs : List ℕ) → each_after (new_output lines) before outputs ≡ true → every (λ (o : ℕ). ltb o lines) outputs ≡ true
-outputs_below lines before [] e = refl
-outputs_below lines before (o ∷ os) e =
-    let parts = and_parts (new_output lines before o) (each_after (new_output lines) (before ++ (o ∷ [])) os) e in
-    and_from (ltb o lines) _ (and_parts (ltb o lines) _ parts.0).0 (outputs_below lines (before ++ (o ∷ [])) os parts.1)
+-- each gate fits the number of its line
+pub fits_at : (inputs : ℕ) (gates : List code.Gate) (i : ℕ) (g : code.Gate) → i < length gates → g ≡ get_or gates i g
+    → each_after (λ (before : List Gate). gate_fits (inputs + length before)) [] (map gate_model gates) ≡ true → gate_fits (inputs + i) (gate_model g) ≡ true
+fits_at inputs gates i g h is e =
+    let models = map gate_model gates in
+    let inside : i < length models = simp length-map h in
+    ap (gate_fits (inputs + i)) (sym (get_or-map gate_model gates i g (gate_model g) h ∙ ap gate_model (sym is)))
+    ∙ ap (λ (n : ℕ). gate_fits (inputs + n) (get_or models i (gate_model g))) (sym (length-take-le i models (omega arith)))
+    ∙ after_at (λ (before : List Gate). gate_fits (inputs + length before)) [] models i (gate_model g) inside e
 
-pub leans : (c : Circuit) → lawful c ≡ true → Leans c
-leans c e =
-    let sizes = and_parts (between 1 64 (length c.inputs)) _ e in
-    let lines = and_parts (leb (line_count c) 512) _ sizes.1 in
-    let outs = and_parts (between 1 64 (length c.outputs)) _ lines.1 in
-    let gates = and_parts (each_after (λ (before : List Gate). gate_fits (length c.inputs + length before)) [] c.gates) _ outs.1 in
-    record {
-      inputs = leb-true (length c.inputs) 64 (and_parts (leb 1 (length c.inputs)) _ sizes.0).1;
-      gates = gates.0;
-      outputs = outputs_below (line_count c) [] c.outputs (and_parts _ (each_after (new_output (line_count c)) [] c.outputs) gates.1).1;
-    }
+-- each output is a line
+pub outputs_below : (c : Circuit) → lawful c ≡ true → All (λ (o : ℕ). o < line_count c) c.outputs
+outputs_below c e k d h =
+    let outputs : each_after (new_output (line_count c)) [] c.outputs ≡ true = grind (arith, and_parts) in
+    ltb-true (get_or c.outputs k d) (line_count c) (and_parts (ltb (get_or c.outputs k d) (line_count c)) _ (after_at (new_output (line_count c)) [] c.outputs k d h outputs)).0

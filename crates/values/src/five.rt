@@ -6,7 +6,7 @@ ghost use Rattle.std.proofs.Common.{rules};
 
 use crate::kind::ValueKind;
 
-#[derive(Clone, Copy)]
+#[derive(Clone, Copy, Debug, PartialEq, Eq)]
 pub enum Five {
     // 00: both levels are 0.
     BothZero,
@@ -92,16 +92,10 @@ impl ValueKind for Five {
     }
 
     fn shows(self) -> bool {
-        match self {
-            Five::GoodOne | Five::FaultyOne => true,
-            Five::BothZero | Five::BothOne | Five::Any => false,
-        }
+        matches!(self, Five::GoodOne | Five::FaultyOne)
     }
 
     fn still(self) -> bool {
-        match self {
-            Five::BothZero | Five::BothOne => true,
-            Five::GoodOne | Five::FaultyOne | Five::Any => false,
-        }
+        matches!(self, Five::BothZero | Five::BothOne)
     }
 }

@@ -2,7 +2,9 @@
 ghost use Rattle.std.specs.Prelude.{◌≡◌};
 ghost use Rattle.values.specs.Halves.{half_and, half_not, half_or, half_xor, level_half};
 
-#[derive(Clone, Copy)]
+use std::ops::{BitAnd, BitOr, BitXor, Not};
+
+#[derive(Clone, Copy, Debug, PartialEq, Eq)]
 pub enum Half {
     Zero,
     One,
@@ -10,50 +12,66 @@ pub enum Half {
     Unknown,
 }
 
-impl Half {
-    // The half of a known level.
-    pub fn known(level: bool) -> Half
-        ensures { result ≡ level_half level }
-    {
+// The half of a known level.
+impl From<bool> for Half {
+    ghost from_gives = { λ level half. half ≡ level_half level };
+
+    fn from(level: bool) -> Half {
         if level { Half::One } else { Half::Zero }
     }
+}
 
-    pub fn not(self) -> Half
-        ensures { result ≡ half_not self }
-    {
+impl Not for Half {
+    type Output = Half;
+
+    ghost not_gives = { λ half result. result ≡ half_not half };
+
+    fn not(self) -> Half {
         match self {
             Half::Zero => Half::One,
             Half::One => Half::Zero,
             Half::Unknown => Half::Unknown,
         }
     }
+}
 
-    pub fn and(self, other: Half) -> Half
-        ensures { result ≡ half_and self other }
-    {
+impl BitAnd for Half {
+    type Output = Half;
+
+    ghost bitand_gives = { λ half other result. result ≡ half_and half other };
+
+    fn bitand(self, other: Half) -> Half {
         match (self, other) {
             (Half::Zero, _) | (_, Half::Zero) => Half::Zero,
             (Half::One, Half::One) => Half::One,
             _ => Half::Unknown,
         }
     }
+}
 
-    pub fn or(self, other: Half) -> Half
-        ensures { result ≡ half_or self other }
-    {
+impl BitOr for Half {
+    type Output = Half;
+
+    ghost bitor_gives = { λ half other result. result ≡ half_or half other };
+
+    fn bitor(self, other: Half) -> Half {
         match (self, other) {
             (Half::One, _) | (_, Half::One) => Half::One,
             (Half::Zero, Half::Zero) => Half::Zero,
             _ => Half::Unknown,
         }
     }
+}
 
-    pub fn xor(self, other: Half) -> Half
-        ensures { result ≡ half_xor self other }
-    {
+impl BitXor for Half {
+    type Output = Half;
+
+    ghost bitxor_gives = { λ half other result. result ≡ half_xor half other };
+
+    fn bitxor(self, other: Half) -> Half {
         match (self, other) {
             (Half::Unknown, _) | (_, Half::Unknown) => Half::Unknown,
-            (Half::One, half) => half.not(),
+            (Half::One, half) => !half,
             (Half::Zero, half) => half,
         }
     }

@@ -8,10 +8,10 @@ ghost use Rattle.std.proofs.Common.{rules};
 use crate::half::Half;
 use crate::kind::ValueKind;
 
-#[derive(Clone, Copy)]
+#[derive(Clone, Copy, Debug, PartialEq, Eq)]
 pub struct Nine {
-    good: Half,
-    faulty: Half,
+    pub(crate) good: Half,
+    pub(crate) faulty: Half,
 }
 
 impl ValueKind for Nine {
@@ -27,8 +27,8 @@ impl ValueKind for Nine {
 
     fn known(level: bool) -> Nine {
         Nine {
-            good: Half::known(level),
-            faulty: Half::known(level),
+            good: level.into(),
+            faulty: level.into(),
         }
     }
 
@@ -41,50 +41,50 @@ impl ValueKind for Nine {
 
     fn not(self) -> Nine {
         Nine {
-            good: self.good.not(),
-            faulty: self.faulty.not(),
+            good: !self.good,
+            faulty: !self.faulty,
         }
     }
 
     fn and(self, other: Nine) -> Nine {
         Nine {
-            good: self.good.and(other.good),
-            faulty: self.faulty.and(other.faulty),
+            good: self.good & other.good,
+            faulty: self.faulty & other.faulty,
         }
     }
 
     fn or(self, other: Nine) -> Nine {
         Nine {
-            good: self.good.or(other.good),
-            faulty: self.faulty.or(other.faulty),
+            good: self.good | other.good,
+            faulty: self.faulty | other.faulty,
         }
     }
 
     fn xor(self, other: Nine) -> Nine {
         Nine {
-            good: self.good.xor(other.good),
-            faulty: self.faulty.xor(other.faulty),
+            good: self.good ^ other.good,
+            faulty: self.faulty ^ other.faulty,
         }
     }
 
     fn stick(self, level: bool) -> Nine {
         Nine {
-            good: self.good,
-            faulty: Half::known(level),
+            faulty: level.into(),
+            ..self
         }
     }
 
     fn shows(self) -> bool {
-        match (self.good, self.faulty) {
-            (Half::Zero, Half::One) | (Half::One, Half::Zero) => true,
-            _ => false,
-        }
+        matches!(
+            (self.good, self.faulty),
+            (Half::Zero, Half::One) | (Half::One, Half::Zero)
+        )
     }
 
     fn still(self) -> bool {
-        match (self.good, self.faulty) {
-            (Half::Zero, Half::Zero) | (Half::One, Half::One) => true,
-            _ => false,
-        }
+        matches!(
+            (self.good, self.faulty),
+            (Half::Zero, Half::Zero) | (Half::One, Half::One)
+        )
     }
 }

@@ -8,27 +8,26 @@ ghost use Rattle.std.proofs.Common.{rules, arith};
 
 use crate::half::Half;
 use crate::kind::ValueKind;
+use crate::nine::Nine;
 
-#[derive(Clone, Copy)]
+#[derive(Clone, Copy, Debug, PartialEq, Eq)]
 pub struct Seven {
-    good: Half,
-    faulty: Half,
+    value: Nine,
     // Where the good half is unknown, the faulty half is too.
-    ghost ruled: { forced good faulty ≡ faulty },
+    ghost ruled: { forced value.good value.faulty ≡ value.faulty },
 }
 
 impl Seven {
-    // The value of two halves, the faulty one given up where the good one is unknown.
-    fn settled(good: Half, faulty: Half) -> Seven
-        ensures good { result.good ≡ good }
-        ensures faulty { result.faulty ≡ forced good faulty }
+    // The value with its faulty half given up where the good half is unknown.
+    fn ruled(value: Nine) -> Seven
+        ensures good { result.value.good ≡ value.good }
+        ensures faulty { result.value.faulty ≡ forced value.good value.faulty }
     {
-        match good {
+        match value.good {
             Half::Unknown => Seven {
-                good,
-                faulty: Half::Unknown,
+                value: Nine::unknown(),
             },
-            Half::Zero | Half::One => Seven { good, faulty },
+            Half::Zero | Half::One => Seven { value },
         }
     }
 }
@@ -38,51 +37,45 @@ impl ValueKind for Seven {
 
     ghost family = { Among seven_sets };
 
-    ghost meaning = { λ v. of_halves v.good v.faulty };
+    ghost meaning = { λ v. of_halves v.value.good v.value.faulty };
 
     ghost lawful = { seven_laws };
 
     ghost admitted = { first_of (Prim.search rules, Prim.grind (arith, Self.row.coded.inj)) };
 
     fn known(level: bool) -> Seven {
-        Seven::settled(Half::known(level), Half::known(level))
+        Seven::ruled(Nine::known(level))
     }
 
     fn unknown() -> Seven {
-        Seven::settled(Half::Unknown, Half::Unknown)
+        Seven::ruled(Nine::unknown())
     }
 
     fn not(self) -> Seven {
-        Seven::settled(self.good.not(), self.faulty.not())
+        Seven::ruled(self.value.not())
     }
 
     fn and(self, other: Seven) -> Seven {
-        Seven::settled(self.good.and(other.good), self.faulty.and(other.faulty))
+        Seven::ruled(self.value.and(other.value))
     }
 
     fn or(self, other: Seven) -> Seven {
-        Seven::settled(self.good.or(other.good), self.faulty.or(other.faulty))
+        Seven::ruled(self.value.or(other.value))
     }
 
     fn xor(self, other: Seven) -> Seven {
-        Seven::settled(self.good.xor(other.good), self.faulty.xor(other.faulty))
+        Seven::ruled(self.value.xor(other.value))
     }
 
     fn stick(self, level: bool) -> Seven {
-        Seven::settled(self.good, Half::known(level))
+        Seven::ruled(self.value.stick(level))
     }
 
     fn shows(self) -> bool {
-        match (self.good, self.faulty) {
-            (Half::Zero, Half::One) | (Half::One, Half::Zero) => true,
-            _ => false,
-        }
+        self.value.shows()
     }
 
     fn still(self) -> bool {
-        match (self.good, self.faulty) {
-            (Half::Zero, Half::Zero) | (Half::One, Half::One) => true,
-            _ => false,
-        }
+        self.value.still()
     }
 }
