@@ -3,6 +3,7 @@ use Rattle.std.proofs.Common.{◌≡◌, ℕ, suc, ◌+◌, ◌<◌, ◌≤◌, 
 use mathlib.Core.Bool.{and-true, and_assoc}
 use Rattle.std.specs.Option.{option_map}
 use Rattle.std.proofs.lemmas.List.{append-nil, append_assoc, map-append, length-append, length-map, length_push}
+use Rattle.std.proofs.lemmas.List.Folds.{list_all-append}
 use Rattle.std.proofs.lemmas.Bool.{and_parts, and_from, not_from_false, ltb-true, lt-ltb}
 use Rattle.words.specs.Lists.{every}
 use Rattle.circuit.specs.Lawful.{each_after, gate_fits, unclaimed}
@@ -19,9 +20,7 @@ each_after_push {X} right before (x ∷ xs) y =
     ∙ ap (λ (front : List X). (right before x && each_after right (before ++ (x ∷ [])) xs) && right front y) (append_assoc before (x ∷ []) xs)
 
 pub every_push : {X : Type 0} (p : X → Bool) (xs : List X) (y : X) → every p xs ≡ true → p y ≡ true → every p (xs ++ (y ∷ [])) ≡ true
-every_push p [] y all this = and_from (p y) true this refl
-every_push p (x ∷ xs) y all this =
-    let parts = and_parts (p x) (every p xs) all in and_from (p x) (every p (xs ++ (y ∷ []))) parts.0 (every_push p xs y parts.1 this)
+every_push p xs y all this = list_all-append p xs (y ∷ []) ∙ and_from _ _ all (and_from _ _ this refl)
 
 abbrev pub below : ℕ → ℕ → Bool
 below lines o = ltb o lines
