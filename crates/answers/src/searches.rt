@@ -40,7 +40,8 @@ fn end_of(state: State) -> Option<Ended> {
     }
 }
 
-// A circuit, a fault by line, pin and level, a budget, and how the search ends.
+// A circuit, a fault by line, pin and level, a budget, and how the search ends. (A row of a table: fields with names would
+// make ten lines of it.)
 #[derive(Clone, Copy)]
 struct Search(&'static str, [usize; 3], usize, Ended);
 
