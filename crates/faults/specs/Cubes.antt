@@ -1,5 +1,5 @@
 -- Cubes of inputs, and when one is refused.
-use Rattle.std.specs.Prelude.{◌≡◌, ℕ, ◌/◌, ◌%◌, ◌^◌, Bool, cond, ◌&&◌, Ok, Err, Result, ◌==◌, bit_and, bit_or, nat_lt}
+use Rattle.std.specs.Prelude.{◌≡◌, ℕ, ◌/◌, ◌%◌, ◌^◌, Bool, cond, ◌&&◌, Some, None, Ok, Err, Option, Result, ◌==◌, bit_and, bit_or, nat_lt}
 use Rattle.refusals.specs.declared.layers.FolderRefusal.{FolderRefusal}
 use Rattle.refusals.specs.declared.layers.FolderRefusal.TheVariants.{LevelNotDriven}
 use Rattle.faults.specs.declared.cube.Cube as code
@@ -24,6 +24,10 @@ cube_made driven level = cond (bit_and level driven == level) (Ok (record { driv
 -- the cube that leaves every input open
 abbrev pub nothing_driven : Cube
 nothing_driven = record { driven = 0; level = 0 }
+
+-- the level that a cube drives an input to, if it drives it
+abbrev pub level_at : Cube → ℕ → Option Bool
+level_at q i = cond (q.driven / 2 ^ i % 2 == 1) (Some (q.level / 2 ^ i % 2 == 1)) None
 
 -- a cube has a place for the input, and leaves it open
 abbrev pub leaves_open : Cube → ℕ → Bool

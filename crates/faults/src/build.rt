@@ -1,7 +1,7 @@
 // How cubes come to be, and what a caller can ask of one.
-ghost use Rattle.std.specs.Prelude.{◌≡◌, MatchResult, ◌==◌, bit_and};
+ghost use Rattle.std.specs.Prelude.{◌≡◌, ◌/◌, ◌%◌, ◌^◌, MatchResult, ◌==◌, bit_and};
 ghost use Rattle.std.specs.Result.{result_map_both};
-ghost use Rattle.faults.specs.Cubes.{Within, cube_model, cube_made, nothing_driven, leaves_open, driving};
+ghost use Rattle.faults.specs.Cubes.{Within, cube_model, cube_made, nothing_driven, level_at, leaves_open, driving};
 
 use crate::cube::Cube;
 use refusals::FolderRefusal;
@@ -11,6 +11,13 @@ fn lies_within(word: u64, other: u64) -> bool
     ensures { result ≡ (bit_and word other == word) }
 {
     word & other == word
+}
+
+// Bit `index` of a word, and 0 past its 64 bits.
+fn bit(word: u64, index: usize) -> bool
+    ensures { result ≡ (word / 2 ^ index % 2 == 1) }
+{
+    index < 64 && (word >> index) % 2 == 1
 }
 
 impl Cube {
@@ -35,11 +42,22 @@ impl Cube {
         }
     }
 
+    // The level that the input is driven to; nothing where it is open.
+    pub fn level_at(self, input: usize) -> Option<bool>
+        ensures { result ≡ level_at (cube_model self) input }
+    {
+        if bit(self.driven, input) {
+            Some(bit(self.level, input))
+        } else {
+            None
+        }
+    }
+
     // Whether the cube has a place for the input, and leaves it open.
     fn leaves_open(self, input: usize) -> bool
         ensures { result ≡ leaves_open (cube_model self) input }
     {
-        input < 64 && (self.driven >> input) % 2 == 0
+        input < 64 && self.level_at(input).is_none()
     }
 
     // The cube that drives one more input to a level. An input that is driven already keeps its level, and one past the

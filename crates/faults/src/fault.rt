@@ -2,12 +2,21 @@
 ghost use Rattle.std.specs.Prelude.{◌≡◌, Decides};
 ghost use Rattle.circuit.specs.Circuits.{circuit_model};
 ghost use Rattle.faults.specs.Faults.{operand_count, fault_made, same_fault};
+ghost use Rattle.faults.specs.declared.fault.Fault.{Fault as FaultModel};
 
 use circuit::Circuit;
 use refusals::FolderRefusal;
 
-// One pin of one line keeps one level, whatever drives it.
+// The numbers that a fault is asked for by. A circuit may lack such a line or pin, and a level above 1 is none.
 #[derive(Clone, Copy)]
+pub struct StuckAt {
+    pub line: usize,
+    pub pin: usize,
+    pub level: usize,
+}
+
+// One pin of one line keeps one level, whatever drives it.
+#[derive(Clone, Copy, PartialEq, Eq)]
 pub struct Fault {
     line: usize,
     // 0 is the line itself, and k the k-th operand of its gate
@@ -17,14 +26,10 @@ pub struct Fault {
 
 impl Fault {
     // The fault of that line and pin, stuck at that level, if the circuit has such a pin.
-    pub fn new(
-        circuit: &Circuit,
-        line: usize,
-        pin: usize,
-        level: usize,
-    ) -> Result<Fault, FolderRefusal>
-        ensures { result ≡ fault_made (circuit_model circuit.now) line pin level }
+    pub fn new(circuit: &Circuit, asked: StuckAt) -> Result<Fault, FolderRefusal>
+        ensures { result ≡ fault_made (circuit_model circuit.now) asked.line asked.pin asked.level }
     {
+        let StuckAt { line, pin, level } = asked;
         if line >= circuit.line_count() {
             return Err(FolderRefusal::NoSuchLine);
         }
@@ -34,11 +39,8 @@ impl Fault {
         if level > 1 {
             return Err(FolderRefusal::LevelAboveOne);
         }
-        Ok(Fault {
-            line,
-            pin,
-            level: level == 1,
-        })
+        let level = level == 1;
+        Ok(Fault { line, pin, level })
     }
 
     pub fn line(self) -> usize
@@ -59,22 +61,17 @@ impl Fault {
     {
         self.level
     }
-
-    // Whether both are the same fault.
-    pub fn same(self, other: Fault) -> bool
-        ensures value { result ≡ same_fault self other }
-        ensures rule { Decides result (self ≡ other) }
-    {
-        self.line == other.line && self.pin == other.pin && self.level == other.level
-    }
 }
 
 // How many operands the gate of a line has; an input has none.
 fn operand_count(circuit: &Circuit, line: usize) -> usize
     ensures { result ≡ operand_count (circuit_model circuit.now) line }
 {
-    match circuit.gate(line) {
-        Some(gate) => gate.operands.len(),
-        None => 0,
-    }
+    circuit.gate(line).map_or(0, |gate| gate.operands.len())
 }
+
+// Runs nothing: its contract is a theorem that the crate owes. `==` says yes of a fault and itself, and of no two others.
+pub fn equal_faults_are_one()
+    ensures value { (f g : FaultModel) → ⟦<Fault as PartialEq>⟧.eq f g ≡ same_fault f g }
+    ensures rule { (f g : FaultModel) → Decides (⟦<Fault as PartialEq>⟧.eq f g) (f ≡ g) }
+{}

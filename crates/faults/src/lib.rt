@@ -6,4 +6,4 @@ pub mod cube;
 pub mod fault;
 
 pub use cube::Cube;
-pub use fault::Fault;
+pub use fault::{Fault, StuckAt, equal_faults_are_one};

@@ -1,5 +1,5 @@
 -- Which inputs a cube drives.
-use Rattle.std.proofs.Common.{◌≡◌, ℕ, zero, suc, ◌*◌, ◌/◌, ◌%◌, ◌^◌, ◌<◌, ◌≤◌, true, eqb, ltb, leb, ◌⊎◌, length, Decides, sym, ap, ◌∙◌, inl, inr, pow-suc, arith, pow_mono}
+use Rattle.std.proofs.Common.{◌≡◌, ℕ, zero, suc, ◌*◌, ◌/◌, ◌%◌, ◌^◌, ◌<◌, ◌≤◌, true, eqb, ltb, leb, ◌⊎◌, length, Some, None, Option, Decides, SomeIff, unwrap_or, sym, ap, ◌∙◌, inl, inr, pow-suc, arith, pow_mono}
 use Rattle.std.proofs.lemmas.Nat.{pow_pos, div_below, le-div, leading_top}
 use Rattle.std.proofs.lemmas.Bool.{cases_lt, lt-ltb, le-ltb, le-leb, lt-leb, leb-true, eqb-true}
 use Rattle.circuit.specs.Model.{Circuit}
@@ -14,6 +14,11 @@ bits_past word k = go (cases_lt word (2 ^ k))
     go : (word < 2 ^ k) ⊎ (2 ^ k ≤ word) → ltb 0 (word / 2 ^ k) ≡ leb (2 ^ k) word
     go (inl h) = le-ltb 0 (word / 2 ^ k) (omega (arith, div_below word (2 ^ k) 1 (pow_pos k) (omega arith))) ∙ sym (lt-leb (2 ^ k) word h)
     go (inr h) = lt-ltb 0 (word / 2 ^ k) (omega (arith, le-div 1 word (2 ^ k) (pow_pos k) (omega arith))) ∙ sym (le-leb (2 ^ k) word h)
+
+-- a word shifted past its first k bits, and 0 where it has no more bits
+pub past_bits : (word k : ℕ) (past : Option ℕ) → word < 2 ^ 64 → SomeIff past (k < 64) (word / 2 ^ k) → ltb 0 (unwrap_or past 0) ≡ leb (2 ^ k) word
+past_bits word k None h beyond = sym (lt-leb (2 ^ k) word (omega (arith, pow_mono {i = 64} {j = k} (omega (arith, beyond)))))
+past_bits word k (Some p) h (_, is) = ap (ltb 0) is ∙ bits_past word k
 
 below_pow : (n : ℕ) → n < 2 ^ n
 below_pow zero = omega arith

@@ -1,7 +1,4 @@
 pub mod Places
-pub mod Joining
-pub mod Filling
-pub mod Judging
 pub mod Driving
 pub mod Rules
 pub mod Simulating

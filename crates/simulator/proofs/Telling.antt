@@ -1,7 +1,7 @@
 -- What simulations under a lawful kind say of vectors.
 use Rattle.std.proofs.Common.{◌≡◌, ℕ, ◌<◌, Bool, true, false, cond, not, ◌&&◌, ◌||◌, List, [], ◌∷◌, length, Option, sym, refl, ap, ◌∙◌, subst}
 use mathlib.Core.Bool.{false≢true, or-true}
-use Rattle.words.specs.Lists.{every, some}
+use Rattle.std.specs.List.{list_all, list_any}
 use Rattle.values.specs.Pairs.{Pair, Pairs, pair, has, ◌∈◌, shows, still, only, Single}
 use Rattle.values.specs.Values.{differs, pairs}
 use Rattle.values.specs.Kind.{Kind, Lawful}
@@ -53,27 +53,27 @@ only_still false true h = absurd (false≢true (sym h))
 
 -- one test of a list that follows from another
 
-some_from : {X : Type 0} (p r : X → Bool) → ((x : X) → p x ≡ true → r x ≡ true) → (xs : List X) → some p xs ≡ true → some r xs ≡ true
+some_from : {X : Type 0} (p r : X → Bool) → ((x : X) → p x ≡ true → r x ≡ true) → (xs : List X) → list_any p xs ≡ true → list_any r xs ≡ true
 some_from p r h [] e = e
 some_from p r h (x ∷ xs) e = go (p x) refl (some_from p r h xs)
   where
-    go : (b : Bool) → p x ≡ b → (some p xs ≡ true → some r xs ≡ true) → (r x || some r xs) ≡ true
+    go : (b : Bool) → p x ≡ b → (list_any p xs ≡ true → list_any r xs ≡ true) → (r x || list_any r xs) ≡ true
     go true y ih = rw (h x y) refl
     go false y ih = rw (ih (rw y at e)) (or-true (r x))
 
-none_from : {X : Type 0} (p r : X → Bool) → ((x : X) → p x ≡ true → r x ≡ false) → (xs : List X) → every p xs ≡ true → some r xs ≡ false
+none_from : {X : Type 0} (p r : X → Bool) → ((x : X) → p x ≡ true → r x ≡ false) → (xs : List X) → list_all p xs ≡ true → list_any r xs ≡ false
 none_from p r h [] e = refl
 none_from p r h (x ∷ xs) e = go (p x) refl (none_from p r h xs)
   where
-    go : (b : Bool) → p x ≡ b → (every p xs ≡ true → some r xs ≡ false) → (r x || some r xs) ≡ false
+    go : (b : Bool) → p x ≡ b → (list_all p xs ≡ true → list_any r xs ≡ false) → (r x || list_any r xs) ≡ false
     go true y ih = rw (h x y) (ih (rw y at e))
     go false y ih = absurd (false≢true (rw y at e))
 
-every_from : {X : Type 0} (p r : X → Bool) → ((x : X) → p x ≡ false → r x ≡ true) → (xs : List X) → some p xs ≡ false → every r xs ≡ true
+every_from : {X : Type 0} (p r : X → Bool) → ((x : X) → p x ≡ false → r x ≡ true) → (xs : List X) → list_any p xs ≡ false → list_all r xs ≡ true
 every_from p r h [] e = refl
 every_from p r h (x ∷ xs) e = go (p x) refl (every_from p r h xs)
   where
-    go : (b : Bool) → p x ≡ b → (some p xs ≡ false → every r xs ≡ true) → (r x && every r xs) ≡ true
+    go : (b : Bool) → p x ≡ b → (list_any p xs ≡ false → list_all r xs ≡ true) → (r x && list_all r xs) ≡ true
     go false y ih = rw (h x y) (ih (rw y at e))
     go true y ih = absurd (false≢true (sym (rw y at e)))
 

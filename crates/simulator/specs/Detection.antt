@@ -1,6 +1,6 @@
 -- Which cubes are shown to detect a fault, and which vectors do detect it.
 use Rattle.std.specs.Prelude.{◌≡◌, ℕ, ◌/◌, ◌%◌, ◌^◌, ◌<◌, Bool, true, false, cond, List, length, None, Option, ◌==◌, slice_index_or}
-use Rattle.words.specs.Lists.{every, some}
+use Rattle.std.specs.List.{list_all, list_any}
 use Rattle.values.specs.Pairs.{Pair, Pairs, pair, shows, still, only}
 use Rattle.values.specs.Values.{differs, faulty_levels}
 use Rattle.values.specs.Kind.{Kind}
@@ -29,11 +29,11 @@ set_of row line = slice_index_or row line (only false false)
 
 -- does some output of the row show?
 abbrev pub some_shows : List Pairs → List ℕ → Bool
-some_shows row outputs = some (λ (o : ℕ). shows (set_of row o)) outputs
+some_shows row outputs = list_any (λ (o : ℕ). shows (set_of row o)) outputs
 
 -- is every output of the row still?
 abbrev pub all_still : List Pairs → List ℕ → Bool
-all_still row outputs = every (λ (o : ℕ). still (set_of row o)) outputs
+all_still row outputs = list_all (λ (o : ℕ). still (set_of row o)) outputs
 
 -- the verdict on a row
 abbrev pub judged : List Pairs → List ℕ → Verdict
@@ -63,7 +63,7 @@ pair_under c f v line = pair (slice_index_or (levels_under c None v) line false)
 
 -- the vector detects the fault: some output has unequal levels without the fault and with it
 abbrev pub detects : Circuit → Option Fault → ℕ → Bool
-detects c f v = some (λ (o : ℕ). differs (pair_under c f v o).good (pair_under c f v o).faulty) c.outputs
+detects c f v = list_any (λ (o : ℕ). differs (pair_under c f v o).good (pair_under c f v o).faulty) c.outputs
 
 -- the vector has the cube's level at each input that the cube drives
 abbrev pub Fills : ℕ → Cube → Type 0

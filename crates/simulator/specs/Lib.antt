@@ -1,5 +1,5 @@
 pub mod Lines
-pub mod Steps
 pub mod Detection
 pub mod Laws
 pub mod Simulation
+pub mod Words

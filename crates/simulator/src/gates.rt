@@ -1,10 +1,8 @@
 // What one gate carries, worked out from the lines before it.
-ghost use Rattle.std.specs.Prelude.{◌≡◌, ℕ, ◌<◌, ◌≤◌, true, map, length, nat_lt};
-ghost use Rattle.words.specs.Lists.{every};
+ghost use Rattle.std.specs.Prelude.{◌≡◌, true, map, length};
 ghost use Rattle.circuit.specs.Lawful.{gate_fits};
 ghost use Rattle.circuit.specs.Tables.{gate_model};
 ghost use Rattle.simulator.specs.Lines.{at_pin, join, ended, gate_value};
-ghost use Rattle.simulator.specs.Steps.{operand_value, all_joined, Joining};
 
 use circuit::{Gate, Op};
 use faults::Fault;
@@ -42,48 +40,20 @@ fn end<V: ValueKind>(op: Op, value: V) -> V
     }
 }
 
-// What the operand at a place carries, of the gate that comes next after the row.
-fn operand_value<V: ValueKind>(
-    operands: &[usize],
-    index: usize,
-    fault: Option<Fault>,
-    row: &[V],
-) -> V
-    requires within { index < length operands.now }
-    requires below { every (λ (o : ℕ). nat_lt o (length row.now)) operands.now ≡ true }
-    ensures { V.ValueKind.meaning result ≡ operand_value V.ValueKind.kind.values fault (map V.ValueKind.meaning row.now) operands.now index }
-{
-    at_pin(fault, row.len(), index + 1, row[operands[index]])
-}
-
-// What the first operand carries, with which the joining begins.
-fn first_operand<V: ValueKind>(operands: &[usize], fault: Option<Fault>, row: &[V]) -> V
-    requires some { 1 ≤ length operands.now }
-    requires below { every (λ (o : ℕ). nat_lt o (length row.now)) operands.now ≡ true }
-    ensures { (op : Op) → Joining V.ValueKind.kind.values fault (map V.ValueKind.meaning row.now) operands.now op 1 (V.ValueKind.meaning result) }
-{
-    operand_value(operands, 0, fault, row)
-}
-
-// The operands of the gate that comes next after the row, joined two at a time from the left.
-fn join_all<V: ValueKind>(op: Op, operands: &[usize], fault: Option<Fault>, row: &[V]) -> V
-    requires some { 1 ≤ length operands.now }
-    requires below { every (λ (o : ℕ). nat_lt o (length row.now)) operands.now ≡ true }
-    ensures { V.ValueKind.meaning result ≡ all_joined V.ValueKind.kind.values fault (map V.ValueKind.meaning row.now) operands.now op }
-{
-    let mut value = first_operand(operands, fault, row);
-    for index in 1..operands.len() {
-        let next = operand_value(operands, index, fault, row);
-        value = join(op, value, next);
-    }
-    value
-}
-
 // What a gate carries whose line comes next after those of the row.
 pub fn gate_value<V: ValueKind>(gate: &Gate, fault: Option<Fault>, row: &[V]) -> V
     requires { gate_fits (length row.now) (gate_model gate.now) ≡ true }
     ensures { V.ValueKind.meaning result ≡ gate_value V.ValueKind.kind.values fault (map V.ValueKind.meaning row.now) (gate_model gate.now) }
 {
-    let joined = join_all(gate.op, &gate.operands, fault, row);
-    at_pin(fault, row.len(), 0, end(gate.op, joined))
+    let line = row.len();
+    let [first, others @ ..] = gate.operands.as_slice() else {
+        unreachable!()
+    };
+    let mut value = at_pin(fault, line, 1, row[*first]);
+    // no `fold`: its closure, with the bounds of its index to show at each turn, is longer than this loop
+    for (index, operand) in others.iter().enumerate() {
+        let next = at_pin(fault, line, index + 2, row[*operand]);
+        value = join(gate.op, value, next);
+    }
+    at_pin(fault, line, 0, end(gate.op, value))
 }

@@ -1,16 +1,13 @@
 // Simulation of a circuit under a cube.
-ghost use Rattle.std.specs.Prelude.{◌≡◌, ℕ, ◌+◌, ◌/◌, ◌^◌, ◌<◌, ◌≤◌, true, cond, List, [], map, length, take, Some, None, Decides, nat_le, nat_lt};
-ghost use Rattle.words.specs.Lists.{every};
+ghost use Rattle.std.specs.Prelude.{◌≡◌, ℕ, ◌+◌, ◌<◌, ◌≤◌, true, List, [], map, length, take, Some, None, Decides, All};
 ghost use Rattle.circuit.specs.Model.{Gate as GateModel};
 ghost use Rattle.circuit.specs.Lawful.{gate_fits, each_after};
 ghost use Rattle.circuit.specs.Tables.{gate_model};
 ghost use Rattle.circuit.specs.Circuits.{circuit_model};
 ghost use Rattle.faults.specs.Cubes.{cube_model};
-ghost use Rattle.simulator.specs.declared.verdict.Verdict.TheVariants.{Still, Unsure};
 ghost use Rattle.simulator.specs.Lines.{inputs_row, gate_value, gates_after};
-ghost use Rattle.simulator.specs.Steps.{Placed};
-ghost use Rattle.simulator.specs.Detection.{bit, input_value, judged};
-ghost use Rattle.simulator.specs.Simulation.{drives_beyond, DrivesBeyond, Worked, Simulates};
+ghost use Rattle.simulator.specs.Detection.{input_value, set_of, judged};
+ghost use Rattle.simulator.specs.Simulation.{drives_beyond, DrivesBeyond, Simulates};
 ghost use Rattle.simulator.specs.Laws.{Telling};
 
 use crate::gates::{at_pin, gate_value};
@@ -21,97 +18,57 @@ use faults::{Cube, Fault};
 use refusals::FolderRefusal;
 use values::kind::ValueKind;
 
-// Bit `index` of a word.
-fn bit(word: u64, index: usize) -> bool
-    requires { index ≤ 63 }
-    ensures { result ≡ bit word index }
-{
-    (word >> index) % 2 == 1
-}
-
 // What a cube gives an input.
 fn input_value<V: ValueKind>(cube: Cube, input: usize) -> V
-    requires { input ≤ 63 }
     ensures { V.ValueKind.meaning result ≡ input_value V.ValueKind.kind (cube_model cube) input }
 {
-    if bit(cube.driven(), input) {
-        V::known(bit(cube.level(), input))
-    } else {
-        V::unknown()
+    match cube.level_at(input) {
+        Some(level) => V::known(level),
+        None => V::unknown(),
     }
 }
 
 // Works out the lines of the inputs.
-fn drive<V: ValueKind>(cube: Cube, fault: Option<Fault>, inputs: usize, row: &mut [V])
-    requires few { inputs ≤ 64 }
-    requires room { inputs ≤ length row.old }
-    ensures { Worked V.ValueKind.meaning (inputs_row V.ValueKind.kind.values fault (input_value V.ValueKind.kind (cube_model cube)) inputs) inputs row.old row.new }
+fn drive<V: ValueKind>(cube: Cube, fault: Option<Fault>, row: &mut [V])
+    ensures { map V.ValueKind.meaning row.new ≡ inputs_row V.ValueKind.kind.values fault (input_value V.ValueKind.kind (cube_model cube)) (length row.old) }
 {
-    for input in 0..inputs {
-        row[input] = at_pin(fault, input, 0, input_value::<V>(cube, input));
+    for (input, value) in row.iter_mut().enumerate() {
+        *value = at_pin(fault, input, 0, input_value(cube, input));
     }
-}
-
-// Works out the line of one gate, below which the other lines stand.
-fn settle_line<V: ValueKind>(gate: &Gate, line: usize, fault: Option<Fault>, row: &mut [V])
-    requires fits { gate_fits line (gate_model gate.now) ≡ true }
-    requires room { line < length row.old }
-    ensures { Placed V.ValueKind.meaning line (gate_value V.ValueKind.kind.values fault (map V.ValueKind.meaning (take line row.old)) (gate_model gate.now)) row.old row.new }
-{
-    row[line] = gate_value(gate, fault, &row[0..line]);
 }
 
 // Works out the lines of the gates, below which those of the inputs stand.
 fn settle<V: ValueKind>(inputs: usize, gates: &[Gate], fault: Option<Fault>, row: &mut [V])
     requires fit { each_after (λ (before : List GateModel). gate_fits (inputs + length before)) [] (map gate_model gates.now) ≡ true }
-    requires room { inputs + length gates.now ≤ length row.old }
-    ensures { Worked V.ValueKind.meaning (gates_after V.ValueKind.kind.values fault (map V.ValueKind.meaning (take inputs row.old)) (map gate_model gates.now)) (inputs + length gates.now) row.old row.new }
+    requires room { inputs + length gates.now ≡ length row.old }
+    ensures { map V.ValueKind.meaning row.new ≡ gates_after V.ValueKind.kind.values fault (map V.ValueKind.meaning (take inputs row.old)) (map gate_model gates.now) }
 {
     for (index, gate) in gates.iter().enumerate() {
-        settle_line(gate, inputs + index, fault, row);
+        let line = inputs + index;
+        row[line] = gate_value(gate, fault, &row[..line]);
     }
 }
 
-// The verdict where no output shows.
-fn unshown(all_still: bool) -> Verdict
-    ensures { result ≡ cond all_still Still Unsure }
+// The value of a line of the row.
+fn value_at<V: ValueKind>(row: &[V], line: usize) -> V
+    requires { line < length row.now }
+    ensures { V.ValueKind.meaning result ≡ set_of (map V.ValueKind.meaning row.now) line }
 {
-    if all_still {
-        Verdict::Still
-    } else {
-        Verdict::Unsure
-    }
+    row[line]
 }
 
 // The verdict on the lines of a row.
 fn judge<V: ValueKind>(outputs: &[usize], row: &[V]) -> Verdict
-    requires { every (λ (o : ℕ). nat_lt o (length row.now)) outputs.now ≡ true }
+    requires { All (λ (o : ℕ). o < length row.now) outputs.now }
     ensures { result ≡ judged (map V.ValueKind.meaning row.now) outputs.now }
 {
-    let mut all_still = true;
-    for output in outputs {
-        let value = row[*output];
-        if value.shows() {
-            return Verdict::Shows;
-        }
-        all_still &= value.still();
+    if outputs.iter().any(|output| value_at(row, *output).shows()) {
+        Verdict::Shows
+    } else if outputs.iter().all(|output| value_at(row, *output).still()) {
+        Verdict::Still
+    } else {
+        Verdict::Unsure
     }
-    unshown(all_still)
-}
-
-// A word without its lowest bits.
-fn bits_from(word: u64, bits: usize) -> u64
-    requires { bits ≤ 63 }
-    ensures { result ≡ word / 2 ^ bits }
-{
-    word >> bits
-}
-
-// Whether some bit of a word is 1 past its lowest ones.
-fn reaches_past(word: u64, bits: usize) -> bool
-    ensures { result ≡ nat_le (2 ^ bits) word }
-{
-    bits < 64 && bits_from(word, bits) > 0
 }
 
 // Whether the cube drives an input that the circuit lacks.
@@ -119,7 +76,8 @@ pub fn drives_beyond(circuit: &Circuit, cube: Cube) -> bool
     ensures value { result ≡ drives_beyond (circuit_model circuit.now) (cube_model cube) }
     ensures rule { Decides result (DrivesBeyond (circuit_model circuit.now) (cube_model cube)) }
 {
-    reaches_past(cube.driven(), circuit.input_count())
+    let past = cube.driven().checked_shr(circuit.input_count() as u32);
+    past.unwrap_or(0) > 0
 }
 
 // Works out each line's value under the cube, with the fault in the socket if there is one, and gives the verdict on the
@@ -140,10 +98,11 @@ pub fn simulate<V: ValueKind>(
     if row.len() < lines {
         return Err(FolderRefusal::RowTooShort);
     }
+    let row = &mut row[..lines];
     let inputs = circuit.input_count();
-    drive(cube, socket.fault, inputs, row);
+    drive(cube, socket.fault, &mut row[..inputs]);
     settle(inputs, circuit.gates(), socket.fault, row);
-    Ok(judge(circuit.outputs(), &row[0..lines]))
+    Ok(judge(circuit.outputs(), row))
 }
 
 // Plugs the fault for one simulation. The socket is empty afterwards, whether the simulation is granted or refused.

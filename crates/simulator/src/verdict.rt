@@ -1,6 +1,10 @@
 // What a simulation says of a cube.
+ghost use Rattle.std.specs.Prelude.{Some};
+ghost use Rattle.simulator.specs.Words.{verdict_word};
 
-#[derive(Clone, Copy, Debug)]
+use std::fmt;
+
+#[derive(Clone, Copy, Debug, PartialEq, Eq)]
 pub enum Verdict {
     // some output's value shows: however the cube is filled in, the fault can be seen
     Shows,
@@ -8,4 +12,17 @@ pub enum Verdict {
     Still,
     // neither
     Unsure,
+}
+
+// A verdict as it is written.
+impl fmt::Display for Verdict {
+    ghost output = { λ v. Some (verdict_word v) };
+
+    fn fmt<W: fmt::Write>(&self, f: &mut fmt::Formatter<W>) -> fmt::Result {
+        match self {
+            Verdict::Shows => f.write_str("shows"),
+            Verdict::Still => f.write_str("still"),
+            Verdict::Unsure => f.write_str("unsure"),
+        }
+    }
 }

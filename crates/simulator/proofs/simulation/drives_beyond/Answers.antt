@@ -1,17 +1,18 @@
-use Rattle.std.proofs.Common.{◌≡◌, ℕ, ◌^◌, leb, ap, ◌∙◌}
+use Rattle.std.proofs.Common.{◌≡◌, ℕ, ◌^◌, ltb, leb, ap, ◌∙◌}
 use Rattle.std.proofs.lemmas.Bool.Decides.{Decides-at}
 use Rattle.circuit.specs.Circuits.{circuit_model}
 use Rattle.faults.specs.Cubes.{cube_model}
 use Rattle.simulator.specs.Simulation.{drives_beyond}
-use Rattle.simulator.proofs.Driving.{beyond_decides}
+use Rattle.simulator.proofs.Driving.{past_bits, beyond_decides}
 use Rattle.simulator.proofs.simulation.drives_beyond.Goals as goal
 
 pub returns : goal.returns
 returns c =
     let model = circuit_model c.args.circuit.now in
     let q = cube_model c.args.cube in
-    let value : c.reaches_past.result ≡ drives_beyond model q =
-    c.reaches_past.ensures
+    let value : ltb 0 c.unwrap_or.result ≡ drives_beyond model q =
+    ap (ltb 0) c.unwrap_or.ensures
+    ∙ past_bits c.driven.result c.input_count.result c.checked_shr-past.result c.driven.type_inv c.checked_shr-past.ensures
     ∙ ap (leb (2 ^ c.input_count.result)) c.driven.ensures
     ∙ ap (λ (n : ℕ). leb (2 ^ n) c.args.cube.driven) c.input_count.ensures.value in
-    record { value = value; rule = Decides-at c.reaches_past.result (drives_beyond model q) value (beyond_decides model q) }
+    record { value = value; rule = Decides-at (ltb 0 c.unwrap_or.result) (drives_beyond model q) value (beyond_decides model q) }

@@ -1,36 +1,34 @@
-use Rattle.std.proofs.Common.{map, length, ◌∙◌, arith}
-use Rattle.simulator.proofs.Places.{below_at, read_line}
-use Rattle.simulator.proofs.Judging.{judge_first, judge_shows, judge_more, judge_end}
+use Rattle.std.proofs.Common.{◌≡◌, map, rules, tests, sym, ◌∙◌}
+use Rattle.std.proofs.lemmas.Iterator.{YieldsList-from_slice}
+use Rattle.std.proofs.lemmas.Iterator.Search.{any_from_yields_List, all_from_yields_List}
+use Rattle.values.specs.Pairs.{shows, still}
+use Rattle.simulator.specs.Detection.{set_of, some_shows, all_still}
 use Rattle.simulator.proofs.simulation.judge.Goals as goal
 
-pub offset_bounds-row-output : goal.offset_bounds-row-output
-offset_bounds-row-output g c = omega (arith, below_at (length c.args.row.now) c.args.outputs.now c.loop-output.output-index 0 c.loop-output-test.true c.requires)
+pub returns-then-any : goal.returns-then-any
+returns-then-any g c =
+    let row = map g.V.ValueKind.meaning c.args.row.now in
+    let outputs = c.args.outputs.now in
+    let some : c.any.result ≡ some_shows row outputs =
+    any_from_yields_List (λ o. shows (set_of row o)) _ _ c.any.result c.any.ensures.ran (YieldsList-from_slice outputs cc) (λ x b q k. search (rules, tests)) in
+    rw (sym some ∙ c.if-any.true)
 
-pub bounds-row-output : goal.bounds-row-output
-bounds-row-output g c = below_at (length c.args.row.now) c.args.outputs.now c.loop-output.output-index 0 c.loop-output-test.true c.requires
+pub returns-then-all : goal.returns-then-all
+returns-then-all g c =
+    let row = map g.V.ValueKind.meaning c.args.row.now in
+    let outputs = c.args.outputs.now in
+    let some : c.any.result ≡ some_shows row outputs =
+    any_from_yields_List (λ o. shows (set_of row o)) _ _ c.any.result c.any.ensures.ran (YieldsList-from_slice outputs cc) (λ x b q k. search (rules, tests)) in
+    let all : c.all.result ≡ all_still row outputs =
+    all_from_yields_List (λ o. still (set_of row o)) _ _ c.all.result c.all.ensures.ran (YieldsList-from_slice outputs cc) (λ x b q k. search (rules, tests)) in
+    rw (sym some ∙ c.if-any.false, sym all ∙ c.if-all.true)
 
-pub loop-output-init : goal.loop-output-init
-loop-output-init g c = judge_first (map g.V.ValueKind.meaning c.args.row.now) c.args.outputs.now
-
-pub loop-output-preserved : goal.loop-output-preserved
-loop-output-preserved g c =
-    let v = g.V.ValueKind in
-    judge_more (map v.meaning c.args.row.now) c.args.outputs.now c.loop-output.output-index c.loop-output.all_still c.loop-output-test.true
-    (v.meaning c.index-row-output.result)
-    (read_line v.meaning c.args.row.now _ c.index-row-output.result _
-    (below_at (length c.args.row.now) c.args.outputs.now c.loop-output.output-index 0 c.loop-output-test.true c.requires) c.index-row-output.is)
-    c.loop-output.invariant c.still-all_still.result c.if-shows.ensures c.still-all_still.ensures
-
-pub returns-then-shows : goal.returns-then-shows
-returns-then-shows g c =
-    let v = g.V.ValueKind in
-    judge_shows (map v.meaning c.args.row.now) c.args.outputs.now c.loop-output.output-index c.loop-output.all_still c.loop-output-test.true
-    (v.meaning c.index-row-output.result)
-    (read_line v.meaning c.args.row.now _ c.index-row-output.result _
-    (below_at (length c.args.row.now) c.args.outputs.now c.loop-output.output-index 0 c.loop-output-test.true c.requires) c.index-row-output.is)
-    c.loop-output.invariant c.if-shows.ensures
-
-pub returns : goal.returns
-returns g c =
-    c.unshown.ensures
-    ∙ judge_end (map g.V.ValueKind.meaning c.args.row.now) c.args.outputs.now c.loop-output.output-index c.loop-output.all_still c.loop-output-test.false c.loop-output.invariant
+pub returns-else-all : goal.returns-else-all
+returns-else-all g c =
+    let row = map g.V.ValueKind.meaning c.args.row.now in
+    let outputs = c.args.outputs.now in
+    let some : c.any.result ≡ some_shows row outputs =
+    any_from_yields_List (λ o. shows (set_of row o)) _ _ c.any.result c.any.ensures.ran (YieldsList-from_slice outputs cc) (λ x b q k. search (rules, tests)) in
+    let all : c.all.result ≡ all_still row outputs =
+    all_from_yields_List (λ o. still (set_of row o)) _ _ c.all.result c.all.ensures.ran (YieldsList-from_slice outputs cc) (λ x b q k. search (rules, tests)) in
+    rw (sym some ∙ c.if-any.false, sym all ∙ c.if-all.false)

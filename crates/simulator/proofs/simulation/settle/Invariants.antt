@@ -1,7 +1,11 @@
-use Rattle.simulator.proofs.Filling.{Settled}
+use Rattle.std.proofs.Common.{◌≡◌, ◌+◌, map, take, drop}
+use Rattle.circuit.specs.Tables.{gate_model}
+use Rattle.simulator.specs.Lines.{gates_after}
 use Rattle.simulator.proofs.simulation.settle.Given as goal
 
+-- the other gates, after the lines so far, give all lines
 abbrev pub invariant-loop-index : goal.invariant-loop-index
 invariant-loop-index g l =
     let v = g.V.ValueKind in
-    Settled v.meaning v.kind.values l.fault l.inputs l.gates l.initial.row l.index l.row
+    gates_after v.kind.values l.fault (map v.meaning (take (l.inputs + l.index) l.row)) (map gate_model (drop l.index l.gates))
+    ≡ gates_after v.kind.values l.fault (map v.meaning (take l.inputs l.initial.row)) (map gate_model l.gates)
