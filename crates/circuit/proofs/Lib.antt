@@ -1,5 +1,4 @@
 pub mod After
 pub mod Named
 pub mod Sizes
-pub mod Gates
 pub mod Ascii

@@ -1,58 +1,43 @@
 -- The names of lines, by place, and one step of the search for a name.
-use Rattle.std.proofs.Common.{◌≡◌, ℕ, suc, ◌+◌, ◌-◌, ◌<◌, ◌≤◌, Bool, true, false, cond, ◌⊎◌, List, map, length, get_or, drop, Some, None, vec_items, vec_len, Option, sym, refl, ap, ◌∙◌, inl, inr, add-zero, zero-add, arith, Bor}
-use mathlib.Core.Bool.{false≢true}
-use Rattle.std.proofs.lemmas.List.{drop_more, drop_all, get_or_append_left, get_or-append_right, get_or-map, get_or_past, length-map, length-append}
-use Rattle.std.proofs.lemmas.Bool.{cases_lt}
-use Rattle.std.specs.Option.{option_map}
-use Rattle.circuit.specs.declared.gate.Gate as code
+use Rattle.std.proofs.Common.{zero, take, [], ◌∷◌, ◌≡◌, ℕ, suc, ◌+◌, ◌-◌, ◌<◌, ◌≤◌, Bool, true, false, cond, ◌⊎◌, List, map, length, get_or, Some, None, vec_items, vec_len, Option, sym, refl, ap, ◌∙◌, inl, inr, add-zero, zero-add, arith}
+use Rattle.std.proofs.lemmas.List.{get_or_append_left, get_or-append_right, get_or-map, get_or_past, length-map, length-append}
+use Rattle.std.proofs.Math.Seq.{take-nil}
+use Rattle.std.proofs.lemmas.Bool.{le-ltb}
+use Rattle.std.proofs.lemmas.Option.{slice_get_cases}
+use Rattle.std.specs.Option.{option_map, option_and_then}
+use Rattle.std.specs.List.{find, range_with_len, slice_get}
 use Rattle.circuit.specs.declared.name.Name.{Name}
 use Rattle.circuit.specs.declared.tables.Tables.{Tables}
-use Rattle.circuit.specs.Model.{Gate, Circuit, names, has_name, line_named}
-use Rattle.circuit.specs.Tables.{name_bytes, gate_model, tables_model}
+use Rattle.circuit.specs.Model.{Gate, Circuit, names, has_name, line_named, gate_at}
+use Rattle.circuit.specs.Tables.{name_bytes, tables_model}
 
--- a number found in what is left after k names
-abbrev pub shifted : ℕ → Option ℕ → Option ℕ
-shifted k None = None
-shifted k (Some m) = Some (k + m)
-
-shifted_zero : (o : Option ℕ) → shifted 0 o ≡ o
-shifted_zero None = refl
-shifted_zero (Some m) = ap Some (zero-add m)
-
-shifted_suc : (k : ℕ) (o : Option ℕ) → shifted k (option_map suc o) ≡ shifted (k + 1) o
-shifted_suc k None = refl
-shifted_suc k (Some m) = ap Some (omega arith)
-
--- the search from line i on gives what the whole search gives
-abbrev pub Searched : List (Option (List ℕ)) → List ℕ → ℕ → Type 0
-Searched ns word i = shifted i (line_named (drop i ns) word) ≡ line_named ns word
-
-pub search_start : (ns : List (Option (List ℕ))) (word : List ℕ) → Searched ns word 0
-search_start ns word = shifted_zero (line_named ns word)
-
-pub search_on : (ns : List (Option (List ℕ))) (word : List ℕ) (i : ℕ) → has_name word (get_or ns i None) ≡ false → Searched ns word i → Searched ns word (i + 1)
-search_on ns word i e h = go (cases_lt i (length ns))
+-- the search by number over the lines below `count`, from line k on, where `named` gives the names of the lines
+search_from : (named : ℕ → Option (List ℕ)) (word : List ℕ) (count k : ℕ) (ns : List (Option (List ℕ))) → ((i : ℕ) → named (k + i) ≡ get_or ns i None)
+    → find (λ line. has_name word (named line)) (range_with_len k count) ≡ option_map (λ m. k + m) (line_named (take count ns) word)
+search_from named word zero k ns h = refl
+search_from named word (suc count) k [] h =
+    ap (λ (b : Bool). cond b (Some k) (find (λ line. has_name word (named line)) (range_with_len (k + 1) count))) (ap (has_name word) (ap named (sym (add-zero k)) ∙ h 0))
+    ∙ search_from named word count (k + 1) [] (λ i. ap named (omega arith) ∙ h (suc i))
+    ∙ ap (λ (ns : List (Option (List ℕ))). option_map (λ m. k + 1 + m) (line_named ns word)) (take-nil count)
+search_from named word (suc count) k (n ∷ ns) h =
+    ap (λ (b : Bool). cond b (Some k) (find (λ line. has_name word (named line)) (range_with_len (k + 1) count))) (ap (has_name word) (ap named (sym (add-zero k)) ∙ h 0))
+    ∙ ap (λ (o : Option ℕ). cond (has_name word n) (Some k) o) (search_from named word count (k + 1) ns (λ i. ap named (omega arith) ∙ h (suc i)))
+    ∙ one_more k (has_name word n) (line_named (take count ns) word)
   where
-    go : (i < length ns) ⊎ (length ns ≤ i) → Searched ns word (i + 1)
-    go (inl l) =
-        sym (shifted_suc i (line_named (drop (i + 1) ns) word))
-        ∙ sym (ap (λ (b : Bool). shifted i (cond b (Some 0) (option_map suc (line_named (drop (i + 1) ns) word)))) e)
-        ∙ ap (λ (xs : List (Option (List ℕ))). shifted i (line_named xs word)) (sym (drop_more ns i None l))
-        ∙ h
-    go (inr l) =
-        ap (λ (xs : List (Option (List ℕ))). shifted (i + 1) (line_named xs word)) (drop_all (i + 1) ns (omega arith))
-        ∙ ap (λ (xs : List (Option (List ℕ))). shifted i (line_named xs word)) (sym (drop_all i ns l))
-        ∙ h
+    one_more : (k : ℕ) (b : Bool) (o : Option ℕ) → cond b (Some k) (option_map (λ m. k + 1 + m) o) ≡ option_map (λ m. k + m) (cond b (Some 0) (option_map suc o))
+    one_more k true o = ap Some (sym (add-zero k))
+    one_more k false None = refl
+    one_more k false (Some m) = ap Some (omega arith)
 
-pub search_found : (ns : List (Option (List ℕ))) (word : List ℕ) (i : ℕ) → i < length ns → has_name word (get_or ns i None) ≡ true → Searched ns word i → Some i ≡ line_named ns word
-search_found ns word i l e h =
-    ap Some (sym (add-zero i))
-    ∙ sym (ap (λ (b : Bool). shifted i (cond b (Some 0) (option_map suc (line_named (drop (i + 1) ns) word)))) e)
-    ∙ ap (λ (xs : List (Option (List ℕ))). shifted i (line_named xs word)) (sym (drop_more ns i None l))
-    ∙ h
+from_zero : (o : Option ℕ) → option_map (λ m. 0 + m) o ≡ o
+from_zero None = refl
+from_zero (Some m) = ap Some (zero-add m)
 
-pub search_end : (ns : List (Option (List ℕ))) (word : List ℕ) (i : ℕ) → length ns ≤ i → Searched ns word i → None ≡ line_named ns word
-search_end ns word i l h = ap (λ (xs : List (Option (List ℕ))). shifted i (line_named xs word)) (sym (drop_all i ns l)) ∙ h
+pub searched : (ns : List (Option (List ℕ))) (word : List ℕ) (count : ℕ) → find (λ line. has_name word (get_or ns line None)) (range_with_len 0 count) ≡ line_named (take count ns) word
+searched ns word count = search_from (λ i. get_or ns i None) word count 0 ns (λ i. ap (λ (j : ℕ). get_or ns j None) (zero-add i)) ∙ from_zero (line_named (take count ns) word)
+
+gate_past : (c : Circuit) (i : ℕ) → length c.inputs ≤ i → gate_at c i ≡ slice_get c.gates (i - length c.inputs)
+gate_past c i h = ap (λ (b : Bool). cond b None (slice_get c.gates (i - length c.inputs))) (le-ltb i (length c.inputs) h)
 
 module _ (c : Circuit) where
   pub names_length : length (names c) ≡ length c.inputs + length c.gates
@@ -71,7 +56,17 @@ module _ (c : Circuit) where
   pub past_named : (i : ℕ) → length c.inputs + length c.gates ≤ i → get_or (names c) i None ≡ None
   past_named i h = get_or_past (names c) i None (rw names_length h)
 
-mapped_twice : {X Y Z : Type 0} (f : Y → Z) (g : X → Y) (o : Option X) → option_map (λ (x : X). f (g x)) o ≡ option_map f (option_map g o)
+  -- the name of a line that is no input
+  pub past_inputs : (i : ℕ) (o : Option Gate) → length c.inputs ≤ i → gate_at c i ≡ o → get_or (names c) i None ≡ option_and_then (λ (g : Gate). g.name) o
+  past_inputs i o h e = go (slice_get_cases c.gates (i - length c.inputs)).1 (sym (gate_past c i h) ∙ e)
+    where
+      go : ((x : Gate) × (i - length c.inputs < length c.gates) × (slice_get c.gates (i - length c.inputs) ≡ Some x) × (get_or c.gates (i - length c.inputs) x ≡ x))
+          ⊎ ((length c.gates ≤ i - length c.inputs) × (slice_get c.gates (i - length c.inputs) ≡ None))
+          → slice_get c.gates (i - length c.inputs) ≡ o → get_or (names c) i None ≡ option_and_then (λ (g : Gate). g.name) o
+      go (inl p) s = gate_named i p.0 h p.1 ∙ ap (λ (g : Gate). g.name) p.3 ∙ ap (option_and_then (λ (g : Gate). g.name)) (sym p.2 ∙ s)
+      go (inr p) s = past_named i (omega (arith, p.0)) ∙ ap (option_and_then (λ (g : Gate). g.name)) (sym p.1 ∙ s)
+
+pub mapped_twice : {X Y Z : Type 0} (f : Y → Z) (g : X → Y) (o : Option X) → option_map (λ (x : X). f (g x)) o ≡ option_map f (option_map g o)
 mapped_twice f g None = refl
 mapped_twice f g (Some x) = refl
 
@@ -83,26 +78,5 @@ module _ (t : Tables) (i : ℕ) where
       sym (input_named (tables_model t) i (name_bytes n) (simp length-map fits)
       ∙ ap Some (get_or-map name_bytes (vec_items t.inputs) i n (name_bytes n) fits ∙ ap name_bytes (sym e)))
 
-  pub gate_name_at : (g : code.Gate) (o : Option (Bor Name)) → vec_len t.inputs ≤ i → i - vec_len t.inputs < length (vec_items t.gates)
-      → g ≡ get_or (vec_items t.gates) (i - vec_len t.inputs) g → option_map (λ x. x.now) o ≡ g.name
-      → option_map (λ (n : Bor Name). name_bytes n.now) o ≡ get_or (names (tables_model t)) i None
-  gate_name_at g o h l e k =
-      let at : length (map name_bytes (vec_items t.inputs)) ≡ vec_len t.inputs = length-map (vec_items t.inputs) name_bytes ∙ sym t.inputs.ok.0 in
-      let fits : i - length (map name_bytes (vec_items t.inputs)) < length (map gate_model (vec_items t.gates)) = rw at (simp length-map l) in
-      mapped_twice name_bytes (λ x. x.now) o ∙ ap (option_map name_bytes) k
-      ∙ sym (gate_named (tables_model t) i (gate_model g) (rw at h) fits
-      ∙ ap (λ (j : ℕ). (get_or (map gate_model (vec_items t.gates)) j (gate_model g)).name) (ap (λ (j : ℕ). i - j) at)
-      ∙ ap (λ (m : Gate). m.name) (get_or-map gate_model (vec_items t.gates) (i - vec_len t.inputs) g (gate_model g) l ∙ ap gate_model (sym e)))
-
-  pub past_name_at : vec_len t.inputs ≤ i → length (vec_items t.gates) ≤ i - vec_len t.inputs → None ≡ get_or (names (tables_model t)) i None
-  past_name_at h l =
-      let at : length (map name_bytes (vec_items t.inputs)) ≡ vec_len t.inputs = length-map (vec_items t.inputs) name_bytes ∙ sym t.inputs.ok.0 in
-      sym (past_named (tables_model t) i (rw at (simp length-map (omega arith))))
-
--- a place that has a name lies inside the list
-pub named_inside : (ns : List (Option (List ℕ))) (word : List ℕ) (i : ℕ) → has_name word (get_or ns i None) ≡ true → i < length ns
-named_inside ns word i e = go (cases_lt i (length ns))
-  where
-    go : (i < length ns) ⊎ (length ns ≤ i) → i < length ns
-    go (inl l) = l
-    go (inr l) = absurd (false≢true (ap (has_name word) (sym (get_or_past ns i None l)) ∙ e))
+  pub gate_name_at : (o : Option Gate) → vec_len t.inputs ≤ i → gate_at (tables_model t) i ≡ o → option_and_then (λ (g : Gate). g.name) o ≡ get_or (names (tables_model t)) i None
+  gate_name_at o h e = sym (past_inputs (tables_model t) i o (omega (arith, length-map (vec_items t.inputs) name_bytes, t.inputs.ok.0)) e)

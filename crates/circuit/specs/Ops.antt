@@ -1,7 +1,8 @@
 -- The operators of gates: their names, and how many operands each takes.
-use Rattle.std.specs.Prelude.{ℕ, cond, List, Some, None, codes, Option}
+use Rattle.std.specs.Prelude.{◌≡◌, ◌≢◌, ℕ, cond, List, Some, None, codes, Option, Result, MatchResult}
 use Rattle.std.specs.Str.{bytes_eq}
 use Rattle.circuit.specs.declared.op.Op.{Op}
+use Rattle.circuit.specs.declared.op.UnknownOp.{UnknownOp}
 use Rattle.circuit.specs.declared.op.Op.TheVariants.{And, Nand, Or, Nor, Xor, Xnor, Not, Buf}
 
 abbrev pub op_named : List ℕ → Option Op
@@ -14,6 +15,23 @@ op_named word =
     (cond (bytes_eq word (codes "xnor")) (Some Xnor)
     (cond (bytes_eq word (codes "not")) (Some Not)
     (cond (bytes_eq word (codes "buf")) (Some Buf) None)))))))
+
+-- the name of an operator
+abbrev pub op_word : Op → List ℕ
+op_word And = codes "and"
+op_word Nand = codes "nand"
+op_word Or = codes "or"
+op_word Nor = codes "nor"
+op_word Xor = codes "xor"
+op_word Xnor = codes "xnor"
+op_word Not = codes "not"
+op_word Buf = codes "buf"
+
+-- the result is the operator that has the word for its name, or an error where none has
+abbrev pub Named : List ℕ → Result Op UnknownOp → Type 0
+Named word r =
+    MatchResult r (λ op. (op_named word ≡ Some op) × (word ≡ op_word op))
+    (λ _. (op_named word ≡ None) × ((op : Op) → word ≢ op_word op))
 
 abbrev pub fewest_operands : Op → ℕ
 fewest_operands And = 2

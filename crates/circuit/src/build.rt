@@ -7,7 +7,6 @@ ghost use Rattle.circuit.specs.Circuits.{circuit_model};
 
 use crate::circuit::Circuit;
 use crate::name::Name;
-use crate::rules::is_lawful;
 use crate::tables::Tables;
 use std::alloc::{AllocError, Global};
 
@@ -16,7 +15,7 @@ impl Circuit {
     pub fn new(tables: Tables) -> Result<Circuit, Tables>
         ensures { MatchResult result (λ c. (lawful (tables_model tables) ≡ true) × (circuit_model c ≡ tables_model tables)) (λ t. (lawful (tables_model tables) ≡ false) × (t ≡ tables)) }
     {
-        if is_lawful(&tables) {
+        if tables.is_lawful() {
             Ok(Circuit { tables })
         } else {
             Err(tables)
@@ -27,8 +26,7 @@ impl Circuit {
     pub fn blank(heap: Global) -> Result<Circuit, AllocError>
         ensures { IfOk result (λ c. circuit_model c ≡ blank) }
     {
-        let mut inputs = Vec::new(heap);
-        inputs.push(Name::a(heap)?)?;
+        let inputs = vec![in heap; Name::a(heap)?]?;
         let outputs = vec![in heap; 0]?;
         let gates = Vec::new(heap);
         Ok(Circuit {

@@ -1,4 +1,4 @@
-// A gate: what it does, and the numbers of the lines that it reads.
+// A gate: what it does, and the lines that it reads.
 use crate::name::Name;
 use crate::op::Op;
 
@@ -7,5 +7,6 @@ pub struct Gate {
     // a gate that was written inside another has none
     pub name: Option<Name>,
     pub op: Op,
+    // the numbers of the lines: the text of a circuit numbers its lines, and several gates can read one
     pub operands: Vec<usize>,
 }

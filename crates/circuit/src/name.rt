@@ -4,8 +4,10 @@ ghost use Rattle.words.specs.Spelling.{name_shape};
 
 use std::alloc::{AllocError, Global};
 use std::{fmt, str};
-use words::is_name;
+use words::{PlacedWord, is_name};
 
+// Its bytes are no String, since `become_a` may take no memory: no method of a String writes over a byte in place, and `push`
+// can lack memory.
 #[derive(Drop)]
 pub struct Name {
     bytes: Vec<u8>,
@@ -24,6 +26,14 @@ impl Name {
         Ok(Some(Name { bytes }))
     }
 
+    // The name that a word of a text is.
+    pub fn from_word(heap: Global, word: PlacedWord<'_>) -> Result<Name, AllocError>
+        ensures { IfOk result (λ n. n.bytes.items ≡ word.entry.bytes.now) }
+    {
+        let bytes = word.bytes.to_vec(heap)?;
+        Ok(Name { bytes })
+    }
+
     // The name `a`.
     pub fn a(heap: Global) -> Result<Name, AllocError>
         ensures { IfOk result (λ n. n.bytes.items ≡ 97 ∷ []) }
@@ -35,7 +45,7 @@ impl Name {
     pub fn bytes(&self) -> &[u8]
         ensures { result.now ≡ self.now.bytes.items }
     {
-        self.bytes.as_slice()
+        &self.bytes
     }
 
     // Turns into the name `a`, which takes no memory.
@@ -54,7 +64,7 @@ impl fmt::Display for Name {
     fn fmt<W: fmt::Write>(&self, f: &mut fmt::Formatter<W>) -> fmt::Result {
         match str::from_utf8(self.bytes()) {
             Ok(text) => f.write_str(text),
-            Err(_) => unreachable(),
+            Err(_) => unreachable!(),
         }
     }
 }

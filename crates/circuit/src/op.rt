@@ -1,10 +1,11 @@
 // What a gate does with its operands.
-ghost use Rattle.std.specs.Prelude.{◌≡◌};
-ghost use Rattle.circuit.specs.Ops.{op_named, fewest_operands, most_operands};
+ghost use Rattle.std.specs.Prelude.{◌≡◌, Some};
+ghost use Rattle.circuit.specs.Ops.{op_word, Named, fewest_operands, most_operands};
 
-use words::same_bytes;
+use std::error::Error;
+use std::fmt;
 
-#[derive(Clone, Copy)]
+#[derive(Clone, Copy, Debug, PartialEq, Eq)]
 pub enum Op {
     And,
     Nand,
@@ -16,32 +17,58 @@ pub enum Op {
     Buf,
 }
 
-impl Op {
-    // The operator of that name, if there is one.
-    pub fn named(word: &[u8]) -> Option<Op>
-        ensures { result ≡ op_named word.now }
-    {
-        if same_bytes(word, b"and") {
-            Some(Op::And)
-        } else if same_bytes(word, b"nand") {
-            Some(Op::Nand)
-        } else if same_bytes(word, b"or") {
-            Some(Op::Or)
-        } else if same_bytes(word, b"nor") {
-            Some(Op::Nor)
-        } else if same_bytes(word, b"xor") {
-            Some(Op::Xor)
-        } else if same_bytes(word, b"xnor") {
-            Some(Op::Xnor)
-        } else if same_bytes(word, b"not") {
-            Some(Op::Not)
-        } else if same_bytes(word, b"buf") {
-            Some(Op::Buf)
-        } else {
-            None
+// A word that names no operator.
+#[derive(Clone, Copy, Debug, PartialEq, Eq)]
+pub struct UnknownOp;
+
+// The operator of that name.
+impl TryFrom<&[u8]> for Op {
+    type Error = UnknownOp;
+
+    ghost try_from_gives = { λ word r. Named word.now r };
+
+    fn try_from(word: &[u8]) -> Result<Op, UnknownOp> {
+        match word {
+            b"and" => Ok(Op::And),
+            b"nand" => Ok(Op::Nand),
+            b"or" => Ok(Op::Or),
+            b"nor" => Ok(Op::Nor),
+            b"xor" => Ok(Op::Xor),
+            b"xnor" => Ok(Op::Xnor),
+            b"not" => Ok(Op::Not),
+            b"buf" => Ok(Op::Buf),
+            _ => Err(UnknownOp),
         }
     }
+}
 
+// An operator's name.
+impl fmt::Display for Op {
+    ghost output = { λ op. Some (op_word op) };
+
+    fn fmt<W: fmt::Write>(&self, f: &mut fmt::Formatter<W>) -> fmt::Result {
+        f.write_str(match self {
+            Op::And => "and",
+            Op::Nand => "nand",
+            Op::Or => "or",
+            Op::Nor => "nor",
+            Op::Xor => "xor",
+            Op::Xnor => "xnor",
+            Op::Not => "not",
+            Op::Buf => "buf",
+        })
+    }
+}
+
+impl fmt::Display for UnknownOp {
+    fn fmt<W: fmt::Write>(&self, f: &mut fmt::Formatter<W>) -> fmt::Result {
+        f.write_str("the word names no operator")
+    }
+}
+
+impl Error for UnknownOp {}
+
+impl Op {
     // The fewest operands of such a gate.
     pub fn fewest(self) -> usize
         ensures { result ≡ fewest_operands self }

@@ -1,34 +1,19 @@
 -- What a granted search or cover leaves in the table.
-use Rattle.std.specs.Prelude.{nat_le}
-use Rattle.std.proofs.Common.{◌≡◌, ℕ, ◌≤◌, Bool, true, false, cond, not, List, map, set, Ok, Err, Result, sym, refl, ap, ◌∙◌}
-use Rattle.std.proofs.lemmas.Bool.{and_parts, leb-true}
-use Rattle.std.proofs.lemmas.Result.{IfOk-at_ok}
+use Rattle.std.proofs.Common.{◌≡◌, ℕ, List, map, set, Ok, Err, Result, sym, refl, ap, ◌∙◌}
 use Rattle.std.proofs.lemmas.List.{map-set}
 use Rattle.refusals.specs.declared.layers.FolderRefusal.{FolderRefusal}
-use Rattle.refusals.specs.declared.layers.FolderRefusal.TheVariants.{EntrySettled, BudgetOutOfRange, BudgetNotAbove}
 use Rattle.values.specs.Kind.{Kind}
 use Rattle.faults.specs.declared.fault.Fault.{Fault}
 use Rattle.faults.specs.Cubes.{Cube}
 use Rattle.visit.specs.Visiting as visiting
 use Rattle.visit.specs.Visits.{answer_in}
 use Rattle.folder.specs.declared.entry.Entry as code
-use Rattle.folder.specs.Entries.{State, Entry, entry_model, state_model, with_state, state_count, state_settled}
+use Rattle.folder.specs.Entries.{Entry, entry_model, state_model, with_state}
 use Rattle.folder.specs.Folders.{Folder}
 use Rattle.folder.specs.Transitions.{granted, and_then, entry_at}
 use Rattle.folder.specs.Covering.{count_of, fewest_cube, simulation_allowed, is_covered, marked, cover_entry}
-use Rattle.folder.specs.Searching.{budget_in_range, filed, search_allowed, file_answer, search_entry}
+use Rattle.folder.specs.Searching.{filed, search_allowed, file_answer, search_entry}
 use Rattle.folder.proofs.Refusing.{then_granted}
-
--- a budget that a search allows is no more than 1,000,000
-pub allowed_small : (s : State) (budget : ℕ) → Ok tt ≡ search_allowed s budget → budget ≤ 1000000
-allowed_small s budget e = split (state_settled s) (budget_in_range budget) refl e
-  where
-    split : (settled in_range : Bool) → budget_in_range budget ≡ in_range
-        → Ok (tt {0}) ≡ cond settled (Err EntrySettled) (cond (not in_range) (Err BudgetOutOfRange) (cond (nat_le budget (state_count s)) (Err BudgetNotAbove) (Ok (tt {0}))))
-        → budget ≤ 1000000
-    split true in_range is h = IfOk-at_ok (λ (_ : Unit {0}). budget ≤ 1000000) (sym h) tt
-    split false false is h = IfOk-at_ok (λ (_ : Unit {0}). budget ≤ 1000000) (sym h) tt
-    split false true is h = leb-true budget 1000000 (and_parts (nat_le 1 budget) (nat_le budget 1000000) is).1
 
 module _ (K : Kind) (f : Folder) (number budget places : ℕ) (e : Entry)
     (found : Ok e ≡ entry_at f.table number) (allowed : Ok tt ≡ search_allowed e.state budget) (fault : Fault) (same : fault ≡ e.fault) where
@@ -39,9 +24,6 @@ module _ (K : Kind) (f : Folder) (number budget places : ℕ) (e : Entry)
       then_granted (entry_at f.table number) e _ found
       ∙ then_granted (search_allowed e.state budget) tt _ allowed
       ∙ sym (ap (λ (d : Result visiting.Answer FolderRefusal). and_then d (λ a. Ok (file_answer f.table number e a))) (is ∙ ap (λ (x : Fault). answer_in K f.circuit x budget places) same))
-
-  pub search_refused : (r : FolderRefusal) → Err r ≡ answer_in K f.circuit fault budget places → search_entry K f number budget places ≡ Err r
-  search_refused r is = reached (Err r) is
 
   pub search_filed : (a : visiting.Answer) → Ok a ≡ answer_in K f.circuit fault budget places
       → (before after : List code.Entry) (x : code.Entry) → f.table ≡ map entry_model before → x.fault ≡ e.fault → state_model x.state ≡ filed a → after ≡ set before number x

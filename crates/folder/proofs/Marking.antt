@@ -69,9 +69,6 @@ module _ (K : Kind) (c : Circuit) (number : ℕ) (q : Cube) (before : List code.
         long = length-set now i f ∙ m.long;
       }
 
-  pub mark_first : Marked 0 before 0
-  mark_first = record { front = refl; rest = refl; counted = refl; long = refl }
-
   pub mark_end : (i : ℕ) (now : List code.Entry) (count : ℕ) → length now ≤ i → Marked i now count
       → (count ≡ count_of (is_covered K c q) (map entry_model before)) × (map entry_model now ≡ map (marked K c number q) (map entry_model before))
   mark_end i now count h m =

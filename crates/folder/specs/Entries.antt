@@ -1,5 +1,5 @@
 -- Entries and their states, as the definitions speak of them: cubes as their two words.
-use Rattle.std.specs.Prelude.{ℕ, Bool, true, false, List, Option}
+use Rattle.std.specs.Prelude.{ℕ, Bool, true, false, List, Option, codes}
 use Rattle.std.specs.declared.option.Option.TheVariants as option
 use Rattle.std.specs.Option.{option_map}
 use Rattle.words.specs.Lists.{some}
@@ -75,3 +75,11 @@ state_settled (Covered by) = true
 -- whether some entry of a table has that fault
 abbrev pub has_fault : List Entry → Fault → Bool
 has_fault table f = some (λ (e : Entry). same_fault e.fault f) table
+
+-- the word of a state
+abbrev pub state_word : State → List ℕ
+state_word Open = codes "open"
+state_word (Spent cube tries) = codes "spent"
+state_word (Fewest cube tries) = codes "fewest"
+state_word (Redundant tries) = codes "redundant"
+state_word (Covered by) = codes "covered"

@@ -10,7 +10,7 @@ ghost use Rattle.folder.specs.Transitions.{Follows, entry_at, enter_fault};
 use crate::entry::Entry;
 use crate::folder::{Folder, MOST_ENTRIES};
 use circuit::Circuit;
-use faults::Fault;
+use faults::{Fault, StuckAt};
 use refusals::{FolderRefusal, Refusal};
 use std::alloc::Global;
 
@@ -18,12 +18,7 @@ use std::alloc::Global;
 fn has_fault(entries: &[Entry], fault: Fault) -> bool
     ensures { result ≡ has_fault (map entry_model entries.now) fault }
 {
-    for entry in entries {
-        if entry.fault().same(fault) {
-            return true;
-        }
-    }
-    false
+    entries.iter().any(|entry| entry.fault() == fault)
 }
 
 // Adds an open entry of the fault at the end, and answers its number.
@@ -68,11 +63,7 @@ impl Folder {
     pub fn entry(&self, number: usize) -> Option<Entry>
         ensures { result ≡ slice_get self.now.entries.items number }
     {
-        if number < self.entries.len() {
-            Some(self.entries[number])
-        } else {
-            None
-        }
+        self.entries.get(number).copied()
     }
 
     // The entry of that number, or the refusal where there is none.
@@ -80,11 +71,7 @@ impl Folder {
         ensures value { result_map_both entry_model (λ e. e) result ≡ entry_at (folder_model self.now).table number }
         ensures inside { MatchResult result (λ _. number < vec_len self.now.entries) (λ _. vec_len self.now.entries ≤ number) }
     {
-        if number < self.entries.len() {
-            Ok(self.entries[number])
-        } else {
-            Err(FolderRefusal::NoSuchEntry)
-        }
+        self.entry(number).ok_or(FolderRefusal::NoSuchEntry)
     }
 
     // Whether the table has no room left.
@@ -94,17 +81,17 @@ impl Folder {
         self.entries.len() >= MOST_ENTRIES
     }
 
-    // Adds an open entry for the fault of that line, pin and level, and answers its number.
-    pub fn enter(&mut self, line: usize, pin: usize, level: usize) -> Result<usize, Refusal>
-        ensures table { Follows (enter_fault (folder_model self.old) line pin level) (folder_model self.old).table result (folder_model self.new).table }
+    // Adds an open entry for the fault that is asked for, and answers its number.
+    pub fn enter(&mut self, asked: StuckAt) -> Result<usize, Refusal>
+        ensures table { Follows (enter_fault (folder_model self.old) asked.line asked.pin asked.level) (folder_model self.old).table result (folder_model self.new).table }
         ensures circuit { self.new.circuit ≡ self.old.circuit }
     {
-        let fault = Fault::new(&self.circuit, line, pin, level)?;
+        let fault = Fault::new(&self.circuit, asked)?;
         if has_fault(&self.entries, fault) {
-            return Err(Refusal::Folder(FolderRefusal::AlreadyEntered));
+            return Err(FolderRefusal::AlreadyEntered.into());
         }
         if self.is_full() {
-            return Err(Refusal::Folder(FolderRefusal::FolderFull));
+            return Err(FolderRefusal::FolderFull.into());
         }
         add(&mut self.entries, fault)
     }

@@ -26,9 +26,7 @@ fn fewest_cube(entry: Entry) -> Result<Cube, FolderRefusal>
 {
     match entry.state() {
         State::Fewest { cube, .. } => Ok(cube),
-        State::Open | State::Spent { .. } | State::Redundant { .. } | State::Covered { .. } => {
-            Err(FolderRefusal::EntryNotFewest)
-        }
+        _ => Err(FolderRefusal::EntryNotFewest),
     }
 }
 
@@ -45,89 +43,63 @@ fn allow_simulation(circuit: &Circuit, cube: Cube, places: usize) -> Result<(), 
     Ok(())
 }
 
-// The verdict on a cube of the circuit's inputs, in a row with room for each line.
-fn verdict_of<V: ValueKind>(
-    circuit: &Circuit,
-    cube: Cube,
-    fault: Fault,
-    socket: &mut Socket,
-    row: &mut [V],
-) -> Verdict
-    requires inside { drives_beyond (circuit_model circuit.now) (cube_model cube) ≡ false }
-    requires room { line_count (circuit_model circuit.now) ≤ length row.old }
-    ensures value { result ≡ verdict V.ValueKind.kind (circuit_model circuit.now) (Some fault) (cube_model cube) }
-    ensures empty { socket.new.fault ≡ None }
-{
-    match simulate_fault(circuit, cube, fault, socket, row) {
-        Ok(verdict) => verdict,
-        Err(_) => unreachable(),
-    }
-}
-
-// Whether the kind shows the cube to detect the fault.
-fn detects<V: ValueKind>(
-    circuit: &Circuit,
-    cube: Cube,
-    fault: Fault,
-    socket: &mut Socket,
-    row: &mut [V],
-) -> bool
-    requires inside { drives_beyond (circuit_model circuit.now) (cube_model cube) ≡ false }
-    requires room { line_count (circuit_model circuit.now) ≤ length row.old }
-    ensures value { result ≡ detected V.ValueKind.kind (circuit_model circuit.now) (Some fault) (cube_model cube) }
-    ensures empty { socket.new.fault ≡ None }
-{
-    match verdict_of(circuit, cube, fault, socket, row) {
-        Verdict::Shows => true,
-        Verdict::Still | Verdict::Unsure => false,
-    }
-}
-
-// Marks the entry as covered by the one of that number, if it is open or spent and the kind shows the cube to detect its
-// fault; whether it was marked.
-fn mark<V: ValueKind>(
-    circuit: &Circuit,
+// The cube of the entry of that number, against the faults of the others.
+#[derive(Clone, Copy)]
+struct Covering<'a> {
+    circuit: &'a Circuit,
     number: usize,
     cube: Cube,
-    entry: &mut Entry,
-    socket: &mut Socket,
-    row: &mut [V],
-) -> bool
-    requires inside { drives_beyond (circuit_model circuit.now) (cube_model cube) ≡ false }
-    requires room { line_count (circuit_model circuit.now) ≤ length row.old }
-    ensures value { result ≡ is_covered V.ValueKind.kind (circuit_model circuit.now) (cube_model cube) (entry_model entry.old) }
-    ensures marks { entry_model entry.new ≡ marked V.ValueKind.kind (circuit_model circuit.now) number (cube_model cube) (entry_model entry.old) }
-    ensures socket { socket.old.fault ≡ None → socket.new.fault ≡ None }
-{
-    if entry.is_settled() || !detects(circuit, cube, entry.fault(), socket, row) {
-        return false;
-    }
-    *entry = entry.in_state(State::Covered { by: number });
-    true
+    ghost inside: { drives_beyond (circuit_model circuit.now) (cube_model cube) ≡ false },
 }
 
-// Marks each entry that the cube covers, and counts them.
-fn mark_all<V: ValueKind>(
-    circuit: &Circuit,
-    number: usize,
-    cube: Cube,
-    entries: &mut [Entry],
-    socket: &mut Socket,
-    row: &mut [V],
-) -> usize
-    requires inside { drives_beyond (circuit_model circuit.now) (cube_model cube) ≡ false }
-    requires room { line_count (circuit_model circuit.now) ≤ length row.old }
-    ensures value { result ≡ count_of (is_covered V.ValueKind.kind (circuit_model circuit.now) (cube_model cube)) (map entry_model entries.old) }
-    ensures marks { map entry_model entries.new ≡ map (marked V.ValueKind.kind (circuit_model circuit.now) number (cube_model cube)) (map entry_model entries.old) }
-    ensures socket { socket.old.fault ≡ None → socket.new.fault ≡ None }
-{
-    let mut count = 0;
-    for entry in entries.iter_mut() {
-        if mark(circuit, number, cube, entry, socket, row) {
-            count += 1;
+impl Covering<'_> {
+    // Whether the kind shows the cube to detect the fault.
+    fn detects<V: ValueKind>(&self, fault: Fault, socket: &mut Socket, row: &mut [V]) -> bool
+        requires { line_count (circuit_model self.now.circuit.now) ≤ length row.old }
+        ensures value { result ≡ detected V.ValueKind.kind (circuit_model self.now.circuit.now) (Some fault) (cube_model self.now.cube) }
+        ensures empty { socket.new.fault ≡ None }
+    {
+        matches!(
+            simulate_fault(self.circuit, self.cube, fault, socket, row),
+            Ok(Verdict::Shows)
+        )
+    }
+
+    // Marks the entry as covered, if it is open or spent and the kind shows the cube to detect its fault; whether it was
+    // marked.
+    fn mark<V: ValueKind>(&self, entry: &mut Entry, socket: &mut Socket, row: &mut [V]) -> bool
+        requires { line_count (circuit_model self.now.circuit.now) ≤ length row.old }
+        ensures value { result ≡ is_covered V.ValueKind.kind (circuit_model self.now.circuit.now) (cube_model self.now.cube) (entry_model entry.old) }
+        ensures marks { entry_model entry.new ≡ marked V.ValueKind.kind (circuit_model self.now.circuit.now) self.now.number (cube_model self.now.cube) (entry_model entry.old) }
+        ensures socket { socket.old.fault ≡ None → socket.new.fault ≡ None }
+    {
+        if entry.is_settled() || !self.detects(entry.fault(), socket, row) {
+            return false;
         }
+        *entry = entry.in_state(State::Covered { by: self.number });
+        true
     }
-    count
+
+    // Marks each entry that the cube covers, and counts them. (A `filter` would not let its closure change what it counts.)
+    fn mark_all<V: ValueKind>(
+        &self,
+        entries: &mut [Entry],
+        socket: &mut Socket,
+        row: &mut [V],
+    ) -> usize
+        requires { line_count (circuit_model self.now.circuit.now) ≤ length row.old }
+        ensures value { result ≡ count_of (is_covered V.ValueKind.kind (circuit_model self.now.circuit.now) (cube_model self.now.cube)) (map entry_model entries.old) }
+        ensures marks { map entry_model entries.new ≡ map (marked V.ValueKind.kind (circuit_model self.now.circuit.now) self.now.number (cube_model self.now.cube)) (map entry_model entries.old) }
+        ensures socket { socket.old.fault ≡ None → socket.new.fault ≡ None }
+    {
+        let mut count = 0;
+        for entry in entries.iter_mut() {
+            if self.mark(entry, socket, row) {
+                count += 1;
+            }
+        }
+        count
+    }
 }
 
 impl Folder {
@@ -147,13 +119,11 @@ impl Folder {
         let entry = self.entry_at(number)?;
         let cube = fewest_cube(entry)?;
         allow_simulation(&self.circuit, cube, row.len())?;
-        Ok(mark_all(
-            &self.circuit,
+        let covering = Covering {
+            circuit: &self.circuit,
             number,
             cube,
-            self.entries.as_mut_slice(),
-            socket,
-            row,
-        ))
+        };
+        Ok(covering.mark_all(self.entries.as_mut_slice(), socket, row))
     }
 }

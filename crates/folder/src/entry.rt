@@ -64,9 +64,8 @@ impl Entry {
     {
         match self.state {
             State::Open => 0,
-            State::Spent { tries, .. } => tries as usize,
-            State::Fewest { tries, .. } => tries as usize,
-            State::Redundant { tries } => tries as usize,
+            State::Spent { tries, .. } | State::Fewest { tries, .. } | State::Redundant { tries } =>
+                tries,
             State::Covered { by } => by,
         }
     }
@@ -75,9 +74,6 @@ impl Entry {
     pub fn is_settled(&self) -> bool
         ensures { result ≡ state_settled (state_model self.now.state) }
     {
-        match self.state {
-            State::Open | State::Spent { .. } => false,
-            State::Fewest { .. } | State::Redundant { .. } | State::Covered { .. } => true,
-        }
+        !matches!(self.state, State::Open | State::Spent { .. })
     }
 }

@@ -16,32 +16,10 @@ use simulator::Socket;
 use values::kind::ValueKind;
 use visit::{Answer, visit};
 
-impl State {
-    // The state that keeps the answer of a visit, which never makes more tries than a budget may allow.
-    fn filed(answer: Answer) -> State
-        requires { answer_tries (answer_model answer) < 2 ^ 32 }
-        ensures { state_model result ≡ filed (answer_model answer) }
-    {
-        match answer {
-            Answer::Fewest { cube, tries } => State::Fewest {
-                cube,
-                tries: tries as u32,
-            },
-            Answer::Redundant { tries } => State::Redundant {
-                tries: tries as u32,
-            },
-            Answer::Spent { best, tries } => State::Spent {
-                cube: best,
-                tries: tries as u32,
-            },
-        }
-    }
-}
-
 fn is_in_range(budget: usize) -> bool
     ensures { result ≡ budget_in_range budget }
 {
-    1 <= budget && budget <= MOST_TRIES
+    (1..=MOST_TRIES).contains(&budget)
 }
 
 // Whether an entry may be searched with that budget.
@@ -87,7 +65,7 @@ impl Folder {
         let entry = self.entry_at(number)?;
         allow_search(entry, budget)?;
         let answer = visit(&self.circuit, entry.fault(), budget, socket, row)?;
-        self.replace(number, entry.in_state(State::filed(answer)));
+        self.replace(number, entry.in_state(answer.into()));
         Ok(answer)
     }
 }

@@ -1,16 +1,51 @@
 // What is known of a fault.
+ghost use Rattle.std.specs.Prelude.{◌≡◌, Some};
+ghost use Rattle.visit.specs.Visits.{answer_model};
+ghost use Rattle.folder.specs.Entries.{state_model, state_word};
+ghost use Rattle.folder.specs.Searching.{filed};
+
 use faults::Cube;
+use std::fmt;
+use visit::Answer;
 
 #[derive(Clone, Copy)]
 pub enum State {
     // nothing yet
     Open,
     // the tries ran out; the cube is the best that was met
-    Spent { cube: Option<Cube>, tries: u32 },
+    Spent { cube: Option<Cube>, tries: usize },
     // a test that drives as few inputs as any
-    Fewest { cube: Cube, tries: u32 },
+    Fewest { cube: Cube, tries: usize },
     // no vector detects the fault
-    Redundant { tries: u32 },
+    Redundant { tries: usize },
     // the cube of another entry detects it
     Covered { by: usize },
+}
+
+// The state that keeps the answer of a visit.
+impl From<Answer> for State {
+    ghost from_gives = { λ a s. state_model s ≡ filed (answer_model a) };
+
+    fn from(answer: Answer) -> State {
+        match answer {
+            Answer::Fewest { cube, tries } => State::Fewest { cube, tries },
+            Answer::Redundant { tries } => State::Redundant { tries },
+            Answer::Spent { best, tries } => State::Spent { cube: best, tries },
+        }
+    }
+}
+
+// The word of a state.
+impl fmt::Display for State {
+    ghost output = { λ s. Some (state_word (state_model s)) };
+
+    fn fmt<W: fmt::Write>(&self, f: &mut fmt::Formatter<W>) -> fmt::Result {
+        f.write_str(match self {
+            State::Open => "open",
+            State::Spent { .. } => "spent",
+            State::Fewest { .. } => "fewest",
+            State::Redundant { .. } => "redundant",
+            State::Covered { .. } => "covered",
+        })
+    }
 }

@@ -1,6 +1,6 @@
 -- What reading a job line answers. As in a circuit text, the words are judged one after the other, and the first bad one
 -- ends the line, by the smallest number that fits.
-use Rattle.std.specs.Prelude.{ℕ, ◌+◌, Bool, cond, not, List, [], ◌∷◌, Some, None, codes, Option}
+use Rattle.std.specs.Prelude.{◌≡◌, ℕ, ◌+◌, Bool, cond, not, List, [], ◌∷◌, Some, None, codes, Option, Result, MatchResult}
 use Rattle.std.specs.Str.{bytes_eq}
 use Rattle.refusals.specs.declared.cause.Refusal.{Refusal}
 use Rattle.refusals.specs.declared.cause.Refusal.TheVariants as refusal
@@ -16,6 +16,8 @@ use Rattle.jobs.specs.declared.job.Job.{Job}
 use Rattle.jobs.specs.declared.job.Job.TheVariants as job
 use Rattle.jobs.specs.declared.job.Head.{Head}
 use Rattle.jobs.specs.declared.job.Head.TheVariants as head
+use Rattle.jobs.specs.declared.job.UnknownKind.{UnknownKind}
+use Rattle.jobs.specs.declared.job.UnknownHead.{UnknownHead}
 use Rattle.jobs.specs.Numbers.{number_shape, number_value}
 
 -- what is due next in a job line
@@ -69,6 +71,14 @@ kind_named word =
     (cond (bytes_eq word (codes "seven")) (Some Seven)
     (cond (bytes_eq word (codes "nine")) (Some Nine) None))
 
+-- the word is the name of the head that was made of it, or names none
+abbrev pub NamesHead : List ℕ → Result Head UnknownHead → Type 0
+NamesHead word r = MatchResult r (λ h. head_named word ≡ Some h) (λ _. head_named word ≡ None)
+
+-- the word is the name of the kind that was made of it, or names none
+abbrev pub NamesKind : List ℕ → Result Kind UnknownKind → Type 0
+NamesKind word r = MatchResult r (λ k. kind_named word ≡ Some k) (λ _. kind_named word ≡ None)
+
 abbrev pub after_head : Head → Due
 after_head head.Kind = kind_word
 after_head head.Fault = fault_name
@@ -102,7 +112,7 @@ module _ (names : List (Option (List ℕ))) (chosen : Bool) where
   word_step fault_name word n = cond (name_shape word) (name_found n (line_named names word)) (malformed n)
   word_step (fault_pin line) word n = cond (number_shape word) (Go (fault_level line (number_value word))) (malformed n)
   word_step (fault_level line pin) word n =
-      cond (number_shape word) (Go (line_close (job.Fault line pin (number_value word)))) (malformed n)
+      cond (number_shape word) (Go (line_close (job.Fault (record { line = line; pin = pin; level = number_value word })))) (malformed n)
   word_step (line_close job) word n = cond (name_shape word) (misplaced n) (malformed n)
   word_step (line_end job) word n = cond (name_shape word) (misplaced n) (malformed n)
 

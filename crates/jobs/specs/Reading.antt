@@ -1,9 +1,11 @@
 -- How the parts of the job reader follow the definition.
-use Rattle.std.specs.Prelude.{◌≡◌, ℕ, Bool, List, Some, None, Ok, Err, Option, Result, MatchResult}
+use Rattle.std.specs.Prelude.{◌≡◌, Some, None, Ok, Err, Option, Result, MatchResult}
 use Rattle.refusals.specs.declared.cause.Refusal.{Refusal}
-use Rattle.words.specs.declared.lexer.Lexer.{Lexer}
+use Rattle.circuit.specs.Circuits.{circuit_model}
+use Rattle.circuit.specs.Model.{names}
 use Rattle.words.specs.Left.{left}
 use Rattle.jobs.specs.declared.job.JobLine.{JobLine}
+use Rattle.jobs.specs.declared.parts.JobReader.{JobReader}
 use Rattle.jobs.specs.JobLines.{Due, Outcome, NoMore, Asked, Refused, run}
 
 -- granted, reading goes on as before; an error is how it ends
@@ -11,8 +13,8 @@ abbrev pub Leads : {X : Type 0} → Outcome → Result X Refusal → (X → Outc
 Leads before r after = MatchResult r (λ x. before ≡ after x) (λ e. before ≡ Refused e)
 
 -- what reading answers from here on, where that is due
-abbrev pub at : List (Option (List ℕ)) → Bool → Due → Lexer → Outcome
-at names chosen due l = run names chosen due (left l)
+abbrev pub at : Due → JobReader → Outcome
+at due r = run (names (circuit_model r.circuit.now)) r.chosen due (left r.lexer)
 
 -- the answer of a call that reads a job line
 abbrev pub job_answer : Outcome → Result (Option JobLine) Refusal

@@ -1,18 +1,20 @@
 // What a job line asks for.
 ghost use Rattle.std.specs.Prelude.{Some};
 ghost use Rattle.jobs.specs.Kinds.{kind_text};
+ghost use Rattle.jobs.specs.JobLines.{NamesKind, NamesHead};
 
+use faults::StuckAt;
 use std::fmt;
 
 // A value kind, by its name.
-#[derive(Clone, Copy)]
+#[derive(Clone, Copy, Debug, PartialEq, Eq)]
 pub enum Kind {
     Five,
     Seven,
     Nine,
 }
 
-#[derive(Clone, Copy)]
+#[derive(Clone, Copy, Debug, PartialEq, Eq)]
 pub enum Job {
     // choose the value kind
     Kind {
@@ -20,16 +22,14 @@ pub enum Job {
     },
     // enter a stuck-at fault
     Fault {
-        line: usize,
-        pin: usize,
-        level: usize,
+        fault: StuckAt,
     },
     // list the entries
     List,
 }
 
 // The word that a job line begins with.
-#[derive(Clone, Copy)]
+#[derive(Clone, Copy, Debug, PartialEq, Eq)]
 pub enum Head {
     Kind,
     Fault,
@@ -37,10 +37,48 @@ pub enum Head {
 }
 
 // A job, and the place where the line after it begins.
-#[derive(Clone, Copy)]
+#[derive(Clone, Copy, Debug, PartialEq, Eq)]
 pub struct JobLine {
     pub job: Job,
     pub next: usize,
+}
+
+// A word that is the name of no kind.
+#[derive(Clone, Copy, Debug, PartialEq, Eq)]
+pub struct UnknownKind;
+
+// A word that no job line begins with.
+#[derive(Clone, Copy, Debug, PartialEq, Eq)]
+pub struct UnknownHead;
+
+impl TryFrom<&[u8]> for Kind {
+    type Error = UnknownKind;
+
+    ghost try_from_gives = { λ word r. NamesKind word.now r };
+
+    fn try_from(word: &[u8]) -> Result<Kind, UnknownKind> {
+        match word {
+            b"five" => Ok(Kind::Five),
+            b"seven" => Ok(Kind::Seven),
+            b"nine" => Ok(Kind::Nine),
+            _ => Err(UnknownKind),
+        }
+    }
+}
+
+impl TryFrom<&[u8]> for Head {
+    type Error = UnknownHead;
+
+    ghost try_from_gives = { λ word r. NamesHead word.now r };
+
+    fn try_from(word: &[u8]) -> Result<Head, UnknownHead> {
+        match word {
+            b"kind" => Ok(Head::Kind),
+            b"fault" => Ok(Head::Fault),
+            b"list" => Ok(Head::List),
+            _ => Err(UnknownHead),
+        }
+    }
 }
 
 // A kind as it is written.
@@ -48,10 +86,10 @@ impl fmt::Display for Kind {
     ghost output = { λ k. Some (kind_text k) };
 
     fn fmt<W: fmt::Write>(&self, f: &mut fmt::Formatter<W>) -> fmt::Result {
-        match self {
-            Kind::Five => f.write_str("five"),
-            Kind::Seven => f.write_str("seven"),
-            Kind::Nine => f.write_str("nine"),
-        }
+        f.write_str(match self {
+            Kind::Five => "five",
+            Kind::Seven => "seven",
+            Kind::Nine => "nine",
+        })
     }
 }

@@ -10,29 +10,17 @@ use words::{Token, unexpected};
 
 const MOST_DIGITS: usize = 7;
 
-fn is_digit(byte: u8) -> bool
-    ensures { result ≡ digit byte }
-{
-    byte >= b'0' && byte <= b'9'
-}
-
 fn all_digits(word: &[u8]) -> bool
     ensures { result ≡ every digit word.now }
 {
-    for byte in word {
-        if !is_digit(*byte) {
-            return false;
-        }
-    }
-    true
+    word.iter().all(u8::is_ascii_digit)
 }
 
-pub fn is_number(word: &[u8]) -> bool
+fn is_number(word: &[u8]) -> bool
     ensures { result ≡ number_shape word.now }
 {
     match word {
-        [] => false,
-        [b'0', _, ..] => false,
+        [] | [b'0', _, ..] => false,
         _ => word.len() <= MOST_DIGITS && all_digits(word),
     }
 }
@@ -54,13 +42,8 @@ pub fn expect_number(token: Token<'_>) -> Result<usize, Refusal>
     ensures { MatchResult result (λ v. NumberWord (lexeme token.entry) v) (λ e. (is_number (lexeme token.entry) ≡ false) × (e ≡ not_number (lexeme token.entry))) }
 {
     match token {
-        Token::Word { bytes, place } => {
-            if is_number(bytes) {
-                Ok(value_of(bytes))
-            } else {
-                Err(TextRefusal::MalformedWord { place }.into())
-            }
-        }
+        Token::Word { bytes, .. } if is_number(bytes) => Ok(value_of(bytes)),
+        Token::Word { place, .. } => Err(TextRefusal::MalformedWord { place }.into()),
         other => Err(unexpected(other)),
     }
 }

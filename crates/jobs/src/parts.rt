@@ -1,8 +1,6 @@
 // The parts of a job line.
-ghost use Rattle.std.specs.Prelude.{◌≡◌, ℕ, Bool, List, Option as Perhaps};
-ghost use Rattle.circuit.specs.Circuits.{circuit_model};
-ghost use Rattle.circuit.specs.Model.{names};
-ghost use Rattle.jobs.specs.JobLines.{Asked, line_begin, job_head, kind_word, fault_name, fault_pin, fault_level, line_close, line_end, head_named, kind_named, after_head, in_turn};
+ghost use Rattle.std.specs.Prelude.{◌≡◌, ℕ};
+ghost use Rattle.jobs.specs.JobLines.{Asked, job_head, kind_word, fault_name, fault_pin, fault_level, line_close, in_turn, after_head};
 ghost use Rattle.jobs.specs.Reading.{Leads, at};
 ghost use Rattle.jobs.specs.declared.job.Job.{Job as JobModel};
 ghost use Rattle.jobs.specs.declared.job.Job.TheVariants as asked;
@@ -10,108 +8,95 @@ ghost use Rattle.jobs.specs.declared.job.Job.TheVariants as asked;
 use crate::job::{Head, Job, Kind};
 use crate::numbers::expect_number;
 use circuit::Circuit;
+use faults::StuckAt;
 use refusals::{CircuitRefusal, FormRefusal, Refusal};
-use words::{Lexer, Token, expect_closing, expect_feed, expect_word, same_bytes};
+use words::{Lexer, Mark, PlacedWord, Token, expect_mark, expect_word};
 
-fn head_named(word: &[u8]) -> Option<Head>
-    ensures { result ≡ head_named word.now }
-{
-    if same_bytes(word, b"kind") {
-        Some(Head::Kind)
-    } else if same_bytes(word, b"fault") {
-        Some(Head::Fault)
-    } else if same_bytes(word, b"list") {
-        Some(Head::List)
-    } else {
-        None
-    }
+// A job line that is being read: what is left of its text, the circuit whose lines it may name, and whether a kind was chosen.
+#[derive(Clone, Copy)]
+pub struct JobReader<'a> {
+    pub lexer: Lexer<'a>,
+    pub circuit: &'a Circuit,
+    pub chosen: bool,
 }
 
-fn kind_named(word: &[u8]) -> Option<Kind>
-    ensures { result ≡ kind_named word.now }
-{
-    if same_bytes(word, b"five") {
-        Some(Kind::Five)
-    } else if same_bytes(word, b"seven") {
-        Some(Kind::Seven)
-    } else if same_bytes(word, b"nine") {
-        Some(Kind::Nine)
-    } else {
-        None
-    }
-}
-
-// Whether such a job may come now: the kind comes first, and once.
-fn is_in_turn(head: Head, chosen: bool) -> bool
-    ensures { result ≡ in_turn chosen head }
-{
-    match head {
-        Head::Kind => !chosen,
-        Head::Fault | Head::List => chosen,
-    }
-}
-
-pub fn head(lexer: &mut Lexer<'_>, chosen: bool) -> Result<Head, Refusal>
-    ensures { (names : List (Perhaps (List ℕ))) → Leads (at names chosen job_head lexer.old) result (λ h. at names chosen (after_head h) lexer.new) }
-{
-    let token = lexer.next_token();
-    let word = expect_word(token)?;
-    let place = word.place;
-    match head_named(word.bytes) {
-        Some(head) => {
-            if is_in_turn(head, chosen) {
-                Ok(head)
-            } else {
-                Err(FormRefusal::Misplaced { place }.into())
-            }
+impl Head {
+    // Whether such a job may come now: the kind comes first, and once.
+    fn is_in_turn(self, chosen: bool) -> bool
+        ensures { result ≡ in_turn chosen self }
+    {
+        match self {
+            Head::Kind => !chosen,
+            Head::Fault | Head::List => chosen,
         }
-        None => Err(FormRefusal::UnknownWord { place }.into()),
     }
 }
 
-pub fn kind_word(lexer: &mut Lexer<'_>) -> Result<Kind, Refusal>
-    ensures { (names : List (Perhaps (List ℕ))) (chosen : Bool) → Leads (at names chosen kind_word lexer.old) result (λ k. at names chosen (line_close (asked.Kind k)) lexer.new) }
-{
-    let token = lexer.next_token();
-    let word = expect_word(token)?;
-    let place = word.place;
-    match kind_named(word.bytes) {
-        Some(kind) => Ok(kind),
-        None => Err(FormRefusal::UnknownWord { place }.into()),
+impl JobReader<'_> {
+    fn head(&mut self) -> Result<Head, Refusal>
+        ensures { Leads (at job_head self.old) result (λ h. at (after_head h) self.new) }
+    {
+        let PlacedWord { bytes, place } = expect_word(self.lexer.next_token())?;
+        let head = Head::try_from(bytes).map_err(|_| FormRefusal::UnknownWord { place })?;
+        if !head.is_in_turn(self.chosen) {
+            return Err(FormRefusal::Misplaced { place }.into());
+        }
+        Ok(head)
     }
-}
 
-// The line of the name that is due.
-pub fn fault_name(lexer: &mut Lexer<'_>, circuit: &Circuit) -> Result<usize, Refusal>
-    ensures { (chosen : Bool) → Leads (at (names (circuit_model circuit.now)) chosen fault_name lexer.old) result (λ line. at (names (circuit_model circuit.now)) chosen (fault_pin line) lexer.new) }
-{
-    let token = lexer.next_token();
-    let word = expect_word(token)?;
-    let place = word.place;
-    match circuit.line_named(word.bytes) {
-        Some(line) => Ok(line),
-        None => Err(CircuitRefusal::UnknownName { place }.into()),
+    fn kind(&mut self) -> Result<Kind, Refusal>
+        ensures { Leads (at kind_word self.old) result (λ k. at (line_close (asked.Kind k)) self.new) }
+    {
+        let PlacedWord { bytes, place } = expect_word(self.lexer.next_token())?;
+        let kind = Kind::try_from(bytes).map_err(|_| FormRefusal::UnknownWord { place })?;
+        Ok(kind)
     }
-}
 
-pub fn number(lexer: &mut Lexer<'_>) -> Result<usize, Refusal>
-    ensures pin { (names : List (Perhaps (List ℕ))) (chosen : Bool) (line : ℕ) → Leads (at names chosen (fault_pin line) lexer.old) result (λ v. at names chosen (fault_level line v) lexer.new) }
-    ensures level { (names : List (Perhaps (List ℕ))) (chosen : Bool) (line pin : ℕ) → Leads (at names chosen (fault_level line pin) lexer.old) result (λ v. at names chosen (line_close (asked.Fault line pin v)) lexer.new) }
-{
-    let token = lexer.next_token();
-    expect_number(token)
-}
-
-// The closing bracket of a job line, and the end of the line: the place where the next line begins.
-pub fn line_rest(lexer: &mut Lexer<'_>) -> Result<usize, Refusal>
-    ensures { (names : List (Perhaps (List ℕ))) (chosen : Bool) (job : JobModel) → Leads (at names chosen (line_close job) lexer.old) result (λ next. Asked job next) }
-{
-    let closing = lexer.next_token();
-    expect_closing(closing)?;
-    let end = lexer.next_token();
-    if let Token::TextEnd { place } = end {
-        return Ok(place);
+    // The line of the name that is due.
+    fn fault_line(&mut self) -> Result<usize, Refusal>
+        ensures { Leads (at fault_name self.old) result (λ line. at (fault_pin line) self.new) }
+    {
+        let PlacedWord { bytes, place } = expect_word(self.lexer.next_token())?;
+        let line = self
+            .circuit
+            .line_named(bytes)
+            .ok_or(CircuitRefusal::UnknownName { place })?;
+        Ok(line)
     }
-    let place = expect_feed(end)?;
-    Ok(place + 1)
+
+    // A fault job, after its head.
+    fn fault(&mut self) -> Result<Job, Refusal>
+        ensures { Leads (at fault_name self.old) result (λ j. at (line_close j) self.new) }
+    {
+        let line = self.fault_line()?;
+        let pin = expect_number(self.lexer.next_token())?;
+        let level = expect_number(self.lexer.next_token())?;
+        let fault = StuckAt { line, pin, level };
+        Ok(Job::Fault { fault })
+    }
+
+    // The job, from its head to before its closing bracket.
+    pub fn job(&mut self) -> Result<Job, Refusal>
+        ensures { Leads (at job_head self.old) result (λ j. at (line_close j) self.new) }
+    {
+        match self.head()? {
+            Head::Kind => {
+                let kind = self.kind()?;
+                Ok(Job::Kind { kind })
+            }
+            Head::Fault => self.fault(),
+            Head::List => Ok(Job::List),
+        }
+    }
+
+    // The closing bracket of a job line, and the end of the line: the place where the next line begins.
+    pub fn line_rest(&mut self) -> Result<usize, Refusal>
+        ensures { (job : JobModel) → Leads (at (line_close job) self.old) result (λ next. Asked job next) }
+    {
+        expect_mark(self.lexer.next_token(), Mark::Closing)?;
+        match self.lexer.next_token() {
+            Token::TextEnd { place } => Ok(place),
+            end => Ok(expect_mark(end, Mark::LineEnd)? + 1),
+        }
+    }
 }

@@ -10,6 +10,7 @@ use Rattle.values.specs.Kind.{Kind, Lawful}
 use Rattle.circuit.specs.Model.{Circuit}
 use Rattle.faults.specs.declared.fault.Fault.{Fault}
 use Rattle.faults.specs.Cubes.{Cube}
+use Rattle.faults.specs.declared.fault.StuckAt.{StuckAt}
 use Rattle.faults.specs.Faults.{fault_made}
 use Rattle.visit.specs.Visiting as visiting
 use Rattle.visit.specs.Visits.{answer_in}
@@ -40,13 +41,13 @@ module _ (K : Kind) (M : Pairs → Type 0) (l : Lawful K M) (c : Circuit) where
   and_false false = refl
 
   module _ (history : List Event) (before after : List Entry) (k : Kept K c history before) (places : ℕ) where
-    entered_keeps : (line pin level : ℕ) (o : Outcome) → defined K (folder before) (Enter line pin level) places ≡ Ok (granted o after)
-        → Kept K c (event (Enter line pin level) places (Ok o) ∷ history) after
-    entered_keeps line pin level o h =
-        let (g, made, named, left) = named_granted Entered (enter_fault (folder before) line pin level) o after h in
-        let (f, table) = entered_granted before (fault_made c line pin level) g made in
-        subst (λ (t : List Entry). Kept K c (event (Enter line pin level) places (Ok o) ∷ history) t) (sym (left ∙ table))
-        (kept_entered K c history (event (Enter line pin level) places (Ok o)) before k f (λ n. refl))
+    entered_keeps : (asked : StuckAt) (o : Outcome) → defined K (folder before) (Enter asked) places ≡ Ok (granted o after)
+        → Kept K c (event (Enter asked) places (Ok o) ∷ history) after
+    entered_keeps asked o h =
+        let (g, made, named, left) = named_granted Entered (enter_fault (folder before) asked.line asked.pin asked.level) o after h in
+        let (f, table) = entered_granted before (fault_made c asked.line asked.pin asked.level) g made in
+        subst (λ (t : List Entry). Kept K c (event (Enter asked) places (Ok o) ∷ history) t) (sym (left ∙ table))
+        (kept_entered K c history (event (Enter asked) places (Ok o)) before k f (λ n. refl))
 
     searched_keeps : (number budget : ℕ) (o : Outcome) → defined K (folder before) (Search number budget) places ≡ Ok (granted o after)
         → Kept K c (event (Search number budget) places (Ok o) ∷ history) after
@@ -76,7 +77,7 @@ module _ (K : Kind) (M : Pairs → Type 0) (l : Lawful K M) (c : Circuit) where
         (kept_covered K c history (event (Cover number) places (Ok o)) before k M l number x q tries (found_granted _ x found) state (λ n. refl))
 
     granted_keeps : (call : Call) (o : Outcome) → defined K (folder before) call places ≡ Ok (granted o after) → Kept K c (event call places (Ok o) ∷ history) after
-    granted_keeps (Enter line pin level) o h = entered_keeps line pin level o h
+    granted_keeps (Enter asked) o h = entered_keeps asked o h
     granted_keeps (Search number budget) o h = searched_keeps number budget o h
     granted_keeps (Cover number) o h = covered_keeps number o h
 

@@ -2,4 +2,3 @@ pub mod Places
 pub mod Granting
 pub mod Keeping
 pub mod Holding
-pub mod Answering

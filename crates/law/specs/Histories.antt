@@ -44,13 +44,13 @@ answered_as {A} name r = result_map_both (λ (g : Granted A). granted (name g.an
 
 -- what a call answers and leaves, by the definitions of the folder
 abbrev pub defined : Kind → Folder → Call → ℕ → Result (Granted Outcome) FolderRefusal
-defined K f (Enter line pin level) places = answered_as Entered (enter_fault f line pin level)
+defined K f (Enter asked) places = answered_as Entered (enter_fault f asked.line asked.pin asked.level)
 defined K f (Search number budget) places = answered_as Searched (search_entry K f number budget places)
 defined K f (Cover number) places = answered_as Covered (cover_entry K f number places)
 
 -- only entering takes memory
 abbrev pub takes_memory : Call → Bool
-takes_memory (Enter line pin level) = true
+takes_memory (Enter asked) = true
 takes_memory (Search number budget) = false
 takes_memory (Cover number) = false
 

@@ -32,7 +32,7 @@ is_granted_unspent (Ok o) = is_unspent_outcome o
 is_granted_unspent (Err e) = false
 
 abbrev pub searches : ℕ → Call → Bool
-searches number (Enter line pin level) = false
+searches number (Enter asked) = false
 searches number (Search n budget) = n == number
 searches number (Cover n) = false
 

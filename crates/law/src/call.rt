@@ -1,23 +1,15 @@
 // The calls that change a folder, and what they answer where they are granted.
+use faults::StuckAt;
 use visit::Answer;
 
 #[derive(Clone, Copy)]
 pub enum Call {
-    // enter the fault of that line, pin and level
-    Enter {
-        line: usize,
-        pin: usize,
-        level: usize,
-    },
+    // enter the fault that is asked for
+    Enter { fault: StuckAt },
     // search the entry of that number in at most so many tries
-    Search {
-        number: usize,
-        budget: usize,
-    },
+    Search { number: usize, budget: usize },
     // cover by the entry of that number
-    Cover {
-        number: usize,
-    },
+    Cover { number: usize },
 }
 
 #[derive(Clone, Copy)]

@@ -12,45 +12,6 @@ use refusals::Refusal;
 use simulator::Socket;
 use values::kind::ValueKind;
 
-fn enter(folder: &mut Folder, line: usize, pin: usize, level: usize) -> Result<Outcome, Refusal>
-    ensures step { (K : Kind) (places : ℕ) → Step K (folder_model folder.old).circuit (event_of (asked.Enter line pin level) places result) (folder_model folder.old).table (folder_model folder.new).table }
-    ensures circuit { folder.new.circuit ≡ folder.old.circuit }
-{
-    let number = folder.enter(line, pin, level)?;
-    Ok(Outcome::Entered { number })
-}
-
-fn search<V: ValueKind>(
-    folder: &mut Folder,
-    number: usize,
-    budget: usize,
-    socket: &mut Socket,
-    row: &mut [V],
-) -> Result<Outcome, Refusal>
-    ensures step { Step V.ValueKind.kind (folder_model folder.old).circuit (event_of (asked.Search number budget) (length row.old) result) (folder_model folder.old).table (folder_model folder.new).table }
-    ensures circuit { folder.new.circuit ≡ folder.old.circuit }
-    ensures socket { MatchResult result (λ _. socket.new.fault ≡ None) (λ _. socket.new ≡ socket.old) }
-    ensures row { MatchResult result (λ _. length row.new ≡ length row.old) (λ _. row.new ≡ row.old) }
-{
-    let answer = folder.search(number, budget, socket, row)?;
-    Ok(Outcome::Searched { answer })
-}
-
-fn cover<V: ValueKind>(
-    folder: &mut Folder,
-    number: usize,
-    socket: &mut Socket,
-    row: &mut [V],
-) -> Result<Outcome, Refusal>
-    ensures step { Step V.ValueKind.kind (folder_model folder.old).circuit (event_of (asked.Cover number) (length row.old) result) (folder_model folder.old).table (folder_model folder.new).table }
-    ensures circuit { folder.new.circuit ≡ folder.old.circuit }
-    ensures socket { MatchResult result (λ _. socket.old.fault ≡ None → socket.new.fault ≡ None) (λ _. socket.new ≡ socket.old) }
-    ensures row { MatchResult result (λ _. length row.new ≡ length row.old) (λ _. row.new ≡ row.old) }
-{
-    let count = folder.cover(number, socket, row)?;
-    Ok(Outcome::Covered { count })
-}
-
 fn act<V: ValueKind>(
     folder: &mut Folder,
     call: Call,
@@ -63,9 +24,18 @@ fn act<V: ValueKind>(
     ensures row { MatchResult result (λ _. length row.new ≡ length row.old) (λ _. row.new ≡ row.old) }
 {
     match call {
-        Call::Enter { line, pin, level } => enter(folder, line, pin, level),
-        Call::Search { number, budget } => search(folder, number, budget, socket, row),
-        Call::Cover { number } => cover(folder, number, socket, row),
+        Call::Enter { fault } => {
+            let number = folder.enter(fault)?;
+            Ok(Outcome::Entered { number })
+        }
+        Call::Search { number, budget } => {
+            let answer = folder.search(number, budget, socket, row)?;
+            Ok(Outcome::Searched { answer })
+        }
+        Call::Cover { number } => {
+            let count = folder.cover(number, socket, row)?;
+            Ok(Outcome::Covered { count })
+        }
     }
 }
 

@@ -5,12 +5,12 @@ use Rattle.words.specs.Lexemes.{Lexeme}
 use Rattle.words.specs.Lists.{every}
 use Rattle.words.specs.Spelling.{name_shape}
 use Rattle.circuit.specs.declared.op.Op.{Op}
-use Rattle.circuit.specs.Ops.{fewest_operands, most_operands}
+use Rattle.circuit.specs.Ops.{fewest_operands, most_operands, op_word}
 use Rattle.circuit.specs.Model.{Circuit, line_count}
 use Rattle.circuit.specs.Lawful.{each_after, unclaimed}
 use Rattle.reader.specs.Reading.{Due, Pending, inputs_line, inputs_head, input_name, line_end, next_line, next_head, gate_name, gate_begin, operator, operand, gate_line_close, output_name, outputs_end}
 use Rattle.reader.specs.Reading.{with_operand, with_name, made_gate}
-use Rattle.reader.specs.Describes.{Mark, opening, closing, word, line_feed, Operands, GateLine, names_then, operands_then, gate_lines_then, op_word, rest_place}
+use Rattle.reader.specs.Describes.{Mark, opening, closing, word, line_feed, Operands, GateLine, names_then, operands_then, gate_lines_then, rest_place}
 use Rattle.reader.specs.Describes.{known, number_of, made, with_gate_lines, inputs_alone, operand_count, unlisted, GateLinesRules}
 use Rattle.reader.proofs.DescribesPlaces.{Placed}
 use Rattle.reader.proofs.DescribesLines.{with_operands, with_outputs, Right}

@@ -7,11 +7,11 @@ use Rattle.words.specs.Lists.{every}
 use Rattle.words.specs.Spelling.{name_shape}
 use Rattle.circuit.specs.declared.op.Op.{Op}
 use Rattle.circuit.specs.declared.op.Op.TheVariants.{And, Nand, Or, Nor, Xor, Xnor, Not, Buf}
-use Rattle.circuit.specs.Ops.{op_named}
+use Rattle.circuit.specs.Ops.{op_named, op_word}
 use Rattle.circuit.specs.Model.{Gate, Circuit, line_count, names, line_named}
 use Rattle.circuit.specs.Lawful.{between}
 use Rattle.reader.specs.Reading.{Pending, with_gate, with_operand}
-use Rattle.reader.specs.Describes.{Operands, none, name_then, gate_then, GateLine, op_word, known, number_of, made, with_gate_line, with_gate_lines, names_in, gates_take, takes, nesting, operand_count}
+use Rattle.reader.specs.Describes.{Operands, none, name_then, gate_then, GateLine, known, number_of, made, with_gate_line, with_gate_lines, names_in, gates_take, takes, nesting, operand_count}
 use Rattle.reader.proofs.Rules.{line_named_push, line_names_push}
 
 -- The words of operators are well shaped, and name them.

@@ -10,13 +10,13 @@ use Rattle.words.specs.Lists.{some}
 use Rattle.words.specs.Spelling.{name_shape}
 use Rattle.circuit.specs.declared.op.Op.{Op}
 use Rattle.circuit.specs.declared.op.Op.TheVariants.{And, Nand, Or, Nor, Xor, Xnor, Not, Buf}
-use Rattle.circuit.specs.Ops.{op_named, fewest_operands, most_operands}
+use Rattle.circuit.specs.Ops.{op_named, fewest_operands, most_operands, op_word}
 use Rattle.circuit.specs.Model.{Gate, Circuit, line_count, names, line_named}
 use Rattle.circuit.specs.Lawful.{each_after, unclaimed}
 use Rattle.reader.specs.Reading.{Due, Pending, inputs_line, inputs_head, input_name, line_end, next_line, next_head, gate_name, gate_begin, operator, operand, gate_line_close, output_name, outputs_end}
 use Rattle.reader.specs.Reading.{Outcome, Granted, Refused, Step, Stop, step, run, reading, empty, open_brackets, taken, full, too_few, is_head}
 use Rattle.reader.specs.Reading.{with_input, with_output, with_operand, with_name, made_gate, gate_made, operand_found, operator_found, output_found, word_step, opening_step, closing_step, feed_step, end_step}
-use Rattle.reader.specs.Describes.{opening, word, none, name_then, gate_then, GateLine, GateLineRules, Source, Describes, op_word}
+use Rattle.reader.specs.Describes.{opening, word, none, name_then, gate_then, GateLine, GateLineRules, Source, Describes}
 use Rattle.reader.specs.Describes.{known, number_of, made, with_gate_line, inputs_alone, all_lines, operand_count, unlisted}
 use Rattle.reader.proofs.DescribesPlaces.{Placed, placed_none, placed_opening, placed_closing, placed_word, placed_feed, front_of, lead, run_step}
 use Rattle.reader.proofs.DescribesLines.{one_first, behind, between_from, line_adds, same_outputs_all, right_name, right_gate}

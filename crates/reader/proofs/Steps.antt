@@ -1,5 +1,5 @@
 -- Steps of the definition, at the words that the reader has tested.
-use Rattle.std.proofs.Common.{◌≡◌, ℕ, zero, suc, ◌+◌, ◌<◌, ◌≤◌, Bool, true, false, cond, eqb, leb, List, [], ◌∷◌, ◌++◌, map, length, get_or, set, IfOk, Some, Ok, Err, vec_items, vec_len, Result, sym, refl, ap, ◌∙◌, arith}
+use Rattle.std.proofs.Common.{◌≡◌, ℕ, zero, suc, ◌+◌, ◌<◌, ◌≤◌, Bool, true, false, cond, eqb, leb, List, [], ◌∷◌, ◌++◌, map, length, get_or, set, IfOk, Some, Ok, Err, vec_items, vec_len, Result, MatchResult, sym, refl, ap, ◌∙◌, arith}
 use Rattle.std.proofs.lemmas.List.{map_push, map-set, get_or-map, length-map}
 use Rattle.std.proofs.lemmas.Bool.{le-leb, lt-leb, le-ltb}
 use Rattle.refusals.specs.declared.cause.Refusal.{Refusal}
@@ -18,36 +18,9 @@ use Rattle.reader.specs.Reading.{Due, inputs_line, input_name, line_end, operato
 use Rattle.reader.specs.declared.parser.Parser.{Parser}
 use Rattle.reader.specs.Parsing.{ahead, so_far, at, resumed, Refuses, Leads}
 
--- the error that was made is the refusal of the definition
-pub refuses_as : (o : Outcome) (e f : Refusal) → e ≡ f → Refuses o f → Refuses o e
-refuses_as o e f same r = rw same r
-
 -- what follows a step that is known
 pub resumed_at : (s u : Step) (ts : List Lexeme) → s ≡ u → resumed s ts ≡ resumed u ts
 resumed_at s u ts e = ap (λ (x : Step). resumed x ts) e
-
-module _ (c : Circuit) (t : Lexeme) (word : List ℕ) (n : ℕ) (is : t ≡ Word word n) (shape : name_shape word ≡ true) where
-  pub input_limit : taken c word ≡ false → leb 64 (length c.inputs) ≡ true → step input_name c t ≡ limit_passed n
-  input_limit new many = ap (step input_name c) is ∙ rw (shape, new, many) refl
-
-  pub input_added : taken c word ≡ false → leb 64 (length c.inputs) ≡ false → step input_name c t ≡ Go input_name (with_input c word)
-  input_added new few = ap (step input_name c) is ∙ rw (shape, new, few) refl
-
--- how many inputs were read
-pub many_inputs : (t : Tables) → 64 ≤ vec_len t.inputs → leb 64 (length (tables_model t).inputs) ≡ true
-many_inputs t h = le-leb 64 (length (tables_model t).inputs) (omega (arith, inputs_count t))
-
-pub few_inputs : (t : Tables) → vec_len t.inputs < 64 → leb 64 (length (tables_model t).inputs) ≡ false
-few_inputs t h = lt-leb 64 (length (tables_model t).inputs) (omega (arith, inputs_count t))
-
--- the tables with one more input
-pub input_pushed : (t u : Tables) (name : Name) (word : List ℕ) → vec_items u.inputs ≡ vec_items t.inputs ++ (name ∷ []) → u.gates ≡ t.gates → u.outputs ≡ t.outputs
-    → name_bytes name ≡ word → with_input (tables_model t) word ≡ tables_model u
-input_pushed t u name word e g o w =
-    let inputs : map name_bytes (vec_items u.inputs) ≡ map name_bytes (vec_items t.inputs) ++ (word ∷ []) =
-    ap (map name_bytes) e ∙ map_push name_bytes (vec_items t.inputs) name ∙ ap (λ (x : List ℕ). map name_bytes (vec_items t.inputs) ++ (x ∷ [])) w
-    in
-    rw (inputs, g, o) refl
 
 -- the tables whose last gate got a name
 last_set : (name : List ℕ) (gs : List Gate) (i : ℕ) (g : Gate) → suc i ≡ length gs → g.op ≡ (get_or gs i g).op → g.operands ≡ (get_or gs i g).operands → g.name ≡ Some name → last_named name gs ≡ set gs i g
@@ -56,10 +29,6 @@ last_set name (h ∷ []) zero g e o p m = rw (o, p, m) refl
 last_set name (h ∷ []) (suc i) g e o p m = absurd (omega arith)
 last_set name (h ∷ (k ∷ gs)) zero g e o p m = absurd (omega arith)
 last_set name (h ∷ (k ∷ gs)) (suc i) g e o p m = ap (λ (rest : List Gate). h ∷ rest) (last_set name (k ∷ gs) i g (omega arith) o p m)
-
-last_none : (name : List ℕ) (gs : List Gate) → length gs ≡ 0 → last_named name gs ≡ gs
-last_none name [] e = refl
-last_none name (g ∷ gs) e = absurd (omega arith)
 
 pub gate_renamed : (t : Tables) (gates : List code.Gate) (name : Name) (i : ℕ) (g h : code.Gate) → suc i ≡ vec_len t.gates → g ≡ get_or (vec_items t.gates) i g
     → h ≡ record { name = Some name; op = g.op; operands = g.operands } → gates ≡ set (vec_items t.gates) i h
@@ -73,9 +42,6 @@ gate_renamed t gates name i g h e r m s =
     (ap (λ (k : code.Gate). (gate_model k).operands) m ∙ sym (ap (λ (k : Gate). k.operands) was))
     (ap (λ (k : code.Gate). (gate_model k).name) m)
     ∙ sym (ap (map gate_model) s ∙ map-set gate_model (vec_items t.gates) i h)
-
-pub gate_unnamed : (t : Tables) (name : List ℕ) → vec_len t.gates ≤ 0 → last_named name (map gate_model (vec_items t.gates)) ≡ map gate_model (vec_items t.gates)
-gate_unnamed t name h = last_none name (map gate_model (vec_items t.gates)) (length-map (vec_items t.gates) gate_model ∙ omega (arith, t.gates.ok.0))
 
 run_step : (due : Due) (c : Circuit) (t : Lexeme) (ts : List Lexeme) → run due c (t ∷ ts) ≡ resumed (step due c t) ts
 run_step due c t ts = go (step due c t)
@@ -94,25 +60,9 @@ stepped due p q t taken same =
 pub stepped_at : (due : Due) (p q : Parser) (t u : Lexeme) → ahead p ≡ t ∷ onward t (ahead q) → q.tables ≡ p.tables → t ≡ u → at due p ≡ resumed (step due (so_far q) u) (onward u (ahead q))
 stepped_at due p q t u taken same is = stepped due p q t taken same ∙ ap (λ (x : Lexeme). resumed (step due (so_far q) x) (onward x (ahead q))) is
 
--- the closing bracket of an inputs line, where the code has tested whether there was a name
-pub inputs_closed : (q : Parser) (n : ℕ) (none : Bool) → none ≡ eqb (vec_len q.tables.inputs) 0
-    → resumed (step input_name (so_far q) (Closing n)) (ahead q) ≡ resumed (cond none (misplaced n) (Go line_end (so_far q))) (ahead q)
-inputs_closed q n none e =
-    ap (λ (b : Bool). resumed (cond b (misplaced n) (Go line_end (so_far q))) (ahead q)) (ap (λ (k : ℕ). eqb k 0) (inputs_count q.tables) ∙ sym e)
-
--- the tables with one more gate
-pub gate_pushed : (t : Tables) (gates : List code.Gate) (g : code.Gate) → gates ≡ vec_items t.gates ++ (g ∷ [])
-    → with_gate (tables_model t) (gate_model g) ≡ record { inputs = (tables_model t).inputs; gates = map gate_model gates; outputs = (tables_model t).outputs }
-gate_pushed t gates g e = let all : map gate_model gates ≡ map gate_model (vec_items t.gates) ++ (gate_model g ∷ []) = ap (map gate_model) e ∙ map_push gate_model (vec_items t.gates) g in rw all refl
-
--- a closing bracket with operands enough, and room for the line
-pub gate_complete : (c : Circuit) (p : Pending) (name : List ℕ) (pending : List Pending) (n : ℕ) → too_few p ≡ false → leb 512 (line_count c) ≡ false
-    → closing_step (operand name p pending) c n ≡ gate_made (made_gate c p) name (line_count c) pending
-gate_complete c p name pending n enough room = rw (enough, room) refl
-
 -- how results lead on: an error that was carried up, a part before, a part after
-pub leads_error : {Y : Type 0} (before : Outcome) (s : Result Y Refusal) (after : Y → Outcome) (e f : Refusal) → s ≡ Err f → f ≡ e → Refuses before e → Leads before s after
-leads_error before s after e f is same h = rw (is, same) h
+pub carried : {X : Type 0} (before : Outcome) (r : Result X Refusal) (goes : X → Type 0) (e f : Refusal) → r ≡ Err f → f ≡ e → Refuses before e → MatchResult r goes (Refuses before)
+carried before r goes e f is same h = rw (is, same) h
 
 pub leads_from : {X : Type 0} (before mid : Outcome) (r : Result X Refusal) (after : X → Outcome) → before ≡ mid → Leads mid r after → Leads before r after
 leads_from before mid r after e h = rw e h
@@ -136,13 +86,3 @@ operand_onward name inner pending c (Word word n) ts = refl
 operand_onward name inner pending c (LineEnd n) ts = refl
 operand_onward name inner pending c (TextEnd n) ts = refl
 operand_onward name inner pending c (Forbidden n) ts = refl
-
-pub made_always : {X Y : Type 0} (r : Result X Y) (P : Type 0) → P → IfOk r (λ _. P)
-made_always (Ok x) P h = h
-made_always (Err y) P h = tt
-
--- what a new parser reads is what the definition reads, of a text that is not too long
-pub reads_text : (text : List ℕ) (p : Parser) (o : Outcome) → length text ≤ 65536 → ahead p ≡ lexemes 0 text → so_far p ≡ empty → at inputs_line p ≡ o → reading text ≡ o
-reads_text text p o short all none h =
-    ap (λ (b : Bool). cond b (Refused (refusal.Circuit (LimitPassed 65536))) (run inputs_line empty (lexemes 0 text))) (le-ltb 65536 (length text) short)
-    ∙ sym (ap (λ (c : Circuit). run inputs_line c (ahead p)) none ∙ ap (run inputs_line empty) all) ∙ h

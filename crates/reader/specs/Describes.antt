@@ -7,8 +7,7 @@ use Rattle.words.specs.Lexemes as lexeme
 use Rattle.words.specs.Lists.{every, some}
 use Rattle.words.specs.Spelling.{name_shape}
 use Rattle.circuit.specs.declared.op.Op.{Op}
-use Rattle.circuit.specs.declared.op.Op.TheVariants.{And, Nand, Or, Nor, Xor, Xnor, Not, Buf}
-use Rattle.circuit.specs.Ops.{fewest_operands, most_operands}
+use Rattle.circuit.specs.Ops.{op_word, fewest_operands, most_operands}
 use Rattle.circuit.specs.Model.{Circuit, line_count, names, line_named}
 use Rattle.circuit.specs.Lawful.{each_after, between, unclaimed}
 use Rattle.reader.specs.Reading.{Granted, reading, with_gate}
@@ -47,16 +46,6 @@ unplaced (lexeme.Word bytes n) = word bytes
 unplaced (lexeme.LineEnd n) = line_feed
 unplaced (lexeme.TextEnd n) = other
 unplaced (lexeme.Forbidden n) = other
-
-abbrev pub op_word : Op → List ℕ
-op_word And = codes "and"
-op_word Nand = codes "nand"
-op_word Or = codes "or"
-op_word Nor = codes "nor"
-op_word Xor = codes "xor"
-op_word Xnor = codes "xnor"
-op_word Not = codes "not"
-op_word Buf = codes "buf"
 
 -- Each of these is the words of a part, and then the further words ms.
 abbrev pub names_then : List (List ℕ) → List Mark → List Mark

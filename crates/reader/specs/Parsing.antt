@@ -1,5 +1,5 @@
 -- How the parts of the reader follow the definition of reading.
-use Rattle.std.specs.Prelude.{◌≡◌, Bool, false, cond, not, ◌&&◌, List, Result, MatchResult}
+use Rattle.std.specs.Prelude.{◌≡◌, ℕ, ◌+◌, ◌≤◌, Bool, false, cond, not, ◌&&◌, List, length, Result, MatchResult}
 use Rattle.refusals.specs.declared.cause.Refusal.{Refusal}
 use Rattle.refusals.specs.declared.cause.Refusal.TheVariants as refusal
 use Rattle.refusals.specs.declared.layers.TextRefusal.TheVariants.{MalformedWord}
@@ -13,7 +13,7 @@ use Rattle.circuit.specs.Tables.{tables_model}
 use Rattle.reader.specs.declared.parser.Parser.{Parser}
 use Rattle.reader.specs.declared.head.Head.{Head}
 use Rattle.reader.specs.declared.head.Head.TheVariants as head
-use Rattle.reader.specs.Reading.{Due, gate_name, output_name, Step, Go, Stop, Outcome, Refused, run, taken}
+use Rattle.reader.specs.Reading.{Pending, Due, gate_name, output_name, Step, Go, Stop, Outcome, Refused, run, taken}
 
 -- the lexemes that a parser has yet to read, and the circuit that it has read
 abbrev pub ahead : Parser → List Lexeme
@@ -42,6 +42,16 @@ Refuses o (refusal.Folder e) = o ≡ Refused (refusal.Folder e)
 -- a result leads from one outcome to another: granted, reading goes on as before; an error is how it ends
 abbrev pub Leads : {X : Type 0} → Outcome → Result X Refusal → (X → Outcome) → Type 0
 Leads before r after = MatchResult r (λ x. before ≡ after x) (Refuses before)
+
+-- A part of the reader goes from where one word is due to where another is: a result leads there, with no more lexemes
+-- ahead; an error is how reading ends.
+abbrev pub Advances : {X : Type 0} → Due → Parser → Result X Refusal → (X → Due) → Parser → Type 0
+Advances due before r next after =
+    MatchResult r (λ x. (at due before ≡ at (next x) after) × (length (ahead after) ≤ length (ahead before))) (Refuses (at due before))
+
+-- inside the gates that are pending, whatever the name of their line, with so many more brackets as may be opened
+abbrev pub InGates : ℕ → (List ℕ → List Pending → Type 0) → Type 0
+InGates allowed goes = (name : List ℕ) (pending : List Pending) → length pending + allowed ≡ 6 → goes name pending
 
 -- a word of the shape of a name that no line has yet
 abbrev pub is_new_name : Circuit → Lexeme → Bool

@@ -1,89 +1,86 @@
 // The lines of a circuit text, but for the inside of a gate.
-ghost use Rattle.std.specs.Prelude.{◌≡◌, ℕ, ◌<◌, ◌≤◌, true, false, List, [], length, MatchResult, OnOk};
-ghost use Rattle.std.specs.Str.{bytes_eq};
-ghost use Rattle.refusals.specs.declared.cause.Refusal.TheVariants.{Memory};
+ghost use Rattle.std.specs.Prelude.{◌≡◌, ℕ, ◌<◌, ◌≤◌, true, false, cond, List, [], length, MatchResult, OnOk};
+ghost use Rattle.refusals.specs.declared.cause.Refusal.TheVariants.{Circuit as CircuitCause};
+ghost use Rattle.refusals.specs.declared.layers.FormRefusal.TheVariants.{Misplaced, UnknownWord};
+ghost use Rattle.refusals.specs.declared.layers.CircuitRefusal.TheVariants.{EndsEarly};
 ghost use Rattle.words.specs.Expected.{is_closing, is_name_word};
-ghost use Rattle.words.specs.Lexemes.{Word, lexeme};
+ghost use Rattle.words.specs.Lexemes.{Word, TextEnd, lexeme, is_end};
 ghost use Rattle.words.specs.Spelling.{name_shape};
-ghost use Rattle.circuit.specs.Model.{names, line_named, line_count};
+ghost use Rattle.circuit.specs.Model.{names, line_named};
 ghost use Rattle.circuit.specs.Tables.{name_bytes};
 ghost use Rattle.reader.specs.Reading.{Granted, inputs_line, inputs_head, input_name, line_end, next_line, next_head, gate_name, gate_begin, operator, gate_line_close, output_name, outputs_end, is_head, taken, step};
-ghost use Rattle.reader.specs.Parsing.{ahead, so_far, at, resumed, Leads, is_new_name, not_new, after_head};
+ghost use Rattle.reader.specs.Parsing.{ahead, so_far, at, resumed, Leads, Advances, is_new_name, not_new, after_head};
 
 use crate::head::Head;
 use crate::parser::Parser;
-use circuit::Name;
+use circuit::{MOST_INPUTS, MOST_OUTPUTS, Name};
 use refusals::{CircuitRefusal, FormRefusal, Refusal};
-use words::{
-    PlacedWord, Token, expect_closing, expect_feed, expect_opening, expect_word, same_bytes,
-};
+use words::{Mark, PlacedWord, Token, expect_mark, expect_word};
 
-pub const MOST_NAMES: usize = 64;
+// The words that lines begin with.
+const INPUTS: &[u8] = b"inputs";
+const GATE: &[u8] = b"gate";
+const OUTPUTS: &[u8] = b"outputs";
 
-// Whether a word begins one of the three kinds of lines.
-fn is_head(word: &[u8]) -> bool
-    ensures { result ≡ is_head word.now }
+// A token of a circuit of which more must come: the text may not end here.
+fn before_end(token: Token<'_>) -> Result<Token<'_>, Refusal>
+    ensures { MatchResult result (λ t. (t ≡ token.entry) × (is_end (lexeme token.entry) ≡ false)) (λ e. (n : ℕ) × (lexeme token.entry ≡ TextEnd n) × (e ≡ CircuitCause (EndsEarly n))) }
 {
-    same_bytes(word, b"inputs") || same_bytes(word, b"gate") || same_bytes(word, b"outputs")
+    match token {
+        Token::TextEnd { place } => Err(CircuitRefusal::EndsEarly { place }.into()),
+        other => Ok(other),
+    }
+}
+
+// The refusal of a word where another head is due.
+fn wrong_head(word: PlacedWord<'_>) -> FormRefusal
+    ensures { result ≡ cond (is_head word.entry.bytes.now) (Misplaced word.entry.place) (UnknownWord word.entry.place) }
+{
+    let PlacedWord { bytes, place } = word;
+    if bytes == INPUTS || bytes == GATE || bytes == OUTPUTS {
+        FormRefusal::Misplaced { place }
+    } else {
+        FormRefusal::UnknownWord { place }
+    }
 }
 
 impl Parser<'_> {
-    // The opening bracket of a line; the text may not end here.
+    // The opening bracket of a line.
     pub fn line_begin(&mut self) -> Result<(), Refusal>
         ensures first { Leads (at inputs_line self.old) result (λ _. at inputs_head self.new) }
         ensures further { Leads (at next_line self.old) result (λ _. at next_head self.new) }
         ensures moves { OnOk result (length (ahead self.new) < length (ahead self.old)) }
-        ensures fewer { length (ahead self.new) ≤ length (ahead self.old) }
     {
-        let token = self.next();
-        if let Token::TextEnd { place } = token {
-            return Err(CircuitRefusal::EndsEarly { place }.into());
-        }
-        expect_opening(token)?;
+        let token = before_end(self.next())?;
+        expect_mark(token, Mark::Opening)?;
         Ok(())
     }
 
-    // The end of an inputs line or a gate line; after it a line should begin, so the text may not end here.
+    // The end of an inputs line or a gate line, after which a line should begin.
     pub fn line_end(&mut self) -> Result<(), Refusal>
-        ensures leads { Leads (at line_end self.old) result (λ _. at next_line self.new) }
-        ensures fewer { length (ahead self.new) ≤ length (ahead self.old) }
+        ensures { Advances line_end self.old result (λ _. next_line) self.new }
     {
-        let token = self.next();
-        if let Token::TextEnd { place } = token {
-            return Err(CircuitRefusal::EndsEarly { place }.into());
-        }
-        expect_feed(token)?;
+        let token = before_end(self.next())?;
+        expect_mark(token, Mark::LineEnd)?;
         Ok(())
     }
 
     pub fn inputs_head(&mut self) -> Result<(), Refusal>
-        ensures leads { Leads (at inputs_head self.old) result (λ _. at input_name self.new) }
-        ensures fewer { length (ahead self.new) ≤ length (ahead self.old) }
+        ensures { Leads (at inputs_head self.old) result (λ _. at input_name self.new) }
     {
-        let token = self.next();
-        let word = expect_word(token)?;
-        let place = word.place;
-        if same_bytes(word.bytes, b"inputs") {
+        let word = expect_word(self.next())?;
+        if word.bytes == INPUTS {
             Ok(())
-        } else if is_head(word.bytes) {
-            Err(FormRefusal::Misplaced { place }.into())
         } else {
-            Err(FormRefusal::UnknownWord { place }.into())
+            Err(wrong_head(word).into())
         }
-    }
-
-    // Inputs and gates so far.
-    pub fn line_count(&self) -> usize
-        ensures { result ≡ line_count (so_far self.now) }
-    {
-        self.tables.inputs.len() + self.tables.gates.len()
     }
 
     // The line of that name, if one was read.
     pub fn line_named(&self, word: &[u8]) -> Option<usize>
         ensures { result ≡ line_named (names (so_far self.now)) word.now }
     {
-        self.tables.named_below(self.line_count(), word)
+        self.tables.named_below(self.tables.line_count(), word)
     }
 
     // The word that is due and names no line yet.
@@ -91,20 +88,9 @@ impl Parser<'_> {
         ensures { MatchResult result (λ w. (lexeme token.entry ≡ Word w.bytes.now w.place) × (name_shape w.bytes.now ≡ true) × (taken (so_far self.now) w.bytes.now ≡ false)) (λ e. (is_new_name (so_far self.now) (lexeme token.entry) ≡ false) × (e ≡ not_new (lexeme token.entry))) }
     {
         let word = expect_word(token)?;
-        let place = word.place;
-        if self.line_named(word.bytes).is_some() {
-            return Err(CircuitRefusal::NameTaken { place }.into());
-        }
-        Ok(word)
-    }
-
-    fn make_name(&self, word: &[u8]) -> Result<Name, Refusal>
-        requires { name_shape word.now ≡ true }
-        ensures { MatchResult result (λ n. name_bytes n ≡ word.now) (λ e. e ≡ Memory) }
-    {
-        match Name::new(self.heap, word)? {
-            Some(name) => Ok(name),
-            None => unreachable(),
+        match self.line_named(word.bytes) {
+            None => Ok(word),
+            Some(_) => Err(CircuitRefusal::NameTaken { place: word.place }.into()),
         }
     }
 
@@ -115,80 +101,67 @@ impl Parser<'_> {
         ensures word { OnOk result (is_name_word (lexeme token.entry) ≡ true) }
     {
         let word = self.expect_new_name(token)?;
-        let place = word.place;
-        if self.tables.inputs.len() >= MOST_NAMES {
+        if self.tables.inputs.len() >= MOST_INPUTS {
+            let place = word.place;
             return Err(CircuitRefusal::LimitPassed { place }.into());
         }
-        let name = self.make_name(word.bytes)?;
+        let name = Name::from_word(self.heap, word)?;
         self.tables.inputs.push(name)?;
         Ok(())
     }
 
     // The names of an inputs line, to its closing bracket.
     pub fn input_names(&mut self) -> Result<(), Refusal>
-        ensures leads { Leads (at input_name self.old) result (λ _. at line_end self.new) }
-        ensures fewer { length (ahead self.new) ≤ length (ahead self.old) }
+        ensures { Leads (at input_name self.old) result (λ _. at line_end self.new) }
     {
         'names: loop {
-            let token = self.next();
-            if let Token::Closing { place } = token {
-                if self.tables.inputs.is_empty() {
+            match self.next() {
+                Token::Closing { place } if self.tables.inputs.is_empty() => {
                     return Err(FormRefusal::Misplaced { place }.into());
                 }
-                return Ok(());
+                Token::Closing { .. } => return Ok(()),
+                token => self.input_name(token)?,
             }
-            self.input_name(token)?;
         }
     }
 
     // The head of a line after the inputs line.
     pub fn next_head(&mut self) -> Result<Head, Refusal>
-        ensures leads { Leads (at next_head self.old) result (λ h. at (after_head h) self.new) }
-        ensures fewer { length (ahead self.new) ≤ length (ahead self.old) }
+        ensures { Advances next_head self.old result after_head self.new }
     {
-        let token = self.next();
-        let word = expect_word(token)?;
-        let place = word.place;
-        if same_bytes(word.bytes, b"gate") {
+        let word = expect_word(self.next())?;
+        if word.bytes == GATE {
             Ok(Head::Gate)
-        } else if same_bytes(word.bytes, b"outputs") {
+        } else if word.bytes == OUTPUTS {
             Ok(Head::Outputs)
-        } else if is_head(word.bytes) {
-            Err(FormRefusal::Misplaced { place }.into())
         } else {
-            Err(FormRefusal::UnknownWord { place }.into())
+            Err(wrong_head(word).into())
         }
     }
 
     pub fn gate_name(&mut self) -> Result<Name, Refusal>
-        ensures leads { Leads (at gate_name self.old) result (λ n. at (gate_begin (name_bytes n)) self.new) }
-        ensures fewer { length (ahead self.new) ≤ length (ahead self.old) }
+        ensures { Advances gate_name self.old result (λ n. gate_begin (name_bytes n)) self.new }
     {
         let token = self.next();
         let word = self.expect_new_name(token)?;
-        self.make_name(word.bytes)
+        Ok(Name::from_word(self.heap, word)?)
     }
 
     // The opening bracket of a line's gate.
     pub fn gate_begin(&mut self) -> Result<(), Refusal>
-        ensures leads { (name : List ℕ) → Leads (at (gate_begin name) self.old) result (λ _. at (operator name []) self.new) }
-        ensures fewer { length (ahead self.new) ≤ length (ahead self.old) }
+        ensures { (name : List ℕ) → Advances (gate_begin name) self.old result (λ _. operator name []) self.new }
     {
-        let token = self.next();
-        expect_opening(token)?;
+        expect_mark(self.next(), Mark::Opening)?;
         Ok(())
     }
 
     // The closing bracket of a gate line: the line's gate, which is the last, gets the name.
     pub fn gate_line_close(&mut self, name: Name) -> Result<(), Refusal>
-        ensures leads { Leads (at (gate_line_close (name_bytes name)) self.old) result (λ _. at line_end self.new) }
-        ensures fewer { length (ahead self.new) ≤ length (ahead self.old) }
+        ensures { Advances (gate_line_close (name_bytes name)) self.old result (λ _. line_end) self.new }
     {
-        let token = self.next();
-        expect_closing(token)?;
-        let count = self.tables.gates.len();
-        if count > 0 {
-            self.tables.gates[count - 1].name = Some(name);
+        expect_mark(self.next(), Mark::Closing)?;
+        if let Some(gate) = self.tables.gates.last_mut() {
+            gate.name = Some(name);
         }
         Ok(())
     }
@@ -199,15 +172,14 @@ impl Parser<'_> {
         ensures same { ahead self.new ≡ ahead self.old }
         ensures word { OnOk result (is_name_word (lexeme token.entry) ≡ true) }
     {
-        let word = expect_word(token)?;
-        let place = word.place;
-        let Some(line) = self.line_named(word.bytes) else {
+        let PlacedWord { bytes, place } = expect_word(token)?;
+        let Some(line) = self.line_named(bytes) else {
             return Err(CircuitRefusal::UnknownName { place }.into());
         };
         if self.tables.lists(line) {
             return Err(CircuitRefusal::NameTaken { place }.into());
         }
-        if self.tables.outputs.len() >= MOST_NAMES {
+        if self.tables.outputs.len() >= MOST_OUTPUTS {
             return Err(CircuitRefusal::LimitPassed { place }.into());
         }
         self.tables.outputs.push(line)?;
@@ -216,29 +188,26 @@ impl Parser<'_> {
 
     // The names of an outputs line, to its closing bracket.
     pub fn output_names(&mut self) -> Result<(), Refusal>
-        ensures leads { Leads (at output_name self.old) result (λ _. at outputs_end self.new) }
+        ensures { Leads (at output_name self.old) result (λ _. at outputs_end self.new) }
     {
         'names: loop {
-            let token = self.next();
-            if let Token::Closing { place } = token {
-                if self.tables.outputs.is_empty() {
+            match self.next() {
+                Token::Closing { place } if self.tables.outputs.is_empty() => {
                     return Err(FormRefusal::Misplaced { place }.into());
                 }
-                return Ok(());
+                Token::Closing { .. } => return Ok(()),
+                token => self.output_name(token)?,
             }
-            self.output_name(token)?;
         }
     }
 
     // The end of the outputs line, and of the circuit: the place where the rest of the text begins.
     pub fn outputs_end(&mut self) -> Result<usize, Refusal>
-        ensures leads { Leads (at outputs_end self.old) result (λ place. Granted (so_far self.new) place) }
+        ensures { Leads (at outputs_end self.old) result (λ place. Granted (so_far self.new) place) }
     {
-        let token = self.next();
-        if let Token::TextEnd { place } = token {
-            return Ok(place);
+        match self.next() {
+            Token::TextEnd { place } => Ok(place),
+            token => Ok(expect_mark(token, Mark::LineEnd)? + 1),
         }
-        let place = expect_feed(token)?;
-        Ok(place + 1)
     }
 }

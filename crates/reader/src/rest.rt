@@ -1,5 +1,5 @@
 // The part of a text after its circuit, and the place where it begins.
-#[derive(Clone, Copy)]
+#[derive(Clone, Copy, Debug, PartialEq, Eq)]
 pub struct Rest<'a> {
     pub bytes: &'a [u8],
     pub place: usize,

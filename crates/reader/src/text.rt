@@ -1,18 +1,15 @@
 // A whole circuit text.
 ghost use Rattle.std.specs.Prelude.{◌≡◌, ◌≤◌, length};
 ghost use Rattle.reader.specs.Reading.{Granted, inputs_line, next_line, gate_name};
-ghost use Rattle.reader.specs.Parsing.{ahead, so_far, at, Leads};
+ghost use Rattle.reader.specs.Parsing.{ahead, so_far, at, Leads, Advances};
 
 use crate::head::Head;
 use crate::parser::Parser;
 use refusals::Refusal;
 
-// The brackets that may be opened inside a gate line's own gate: eight together, less the line's and the gate's.
-pub const INNER_BRACKETS: usize = 6;
-
 impl Parser<'_> {
     fn inputs_line(&mut self) -> Result<(), Refusal>
-        ensures leads { Leads (at inputs_line self.old) result (λ _. at next_line self.new) }
+        ensures { Leads (at inputs_line self.old) result (λ _. at next_line self.new) }
     {
         self.line_begin()?;
         self.inputs_head()?;
@@ -22,19 +19,18 @@ impl Parser<'_> {
 
     // A gate line, after its head.
     fn gate_line(&mut self) -> Result<(), Refusal>
-        ensures leads { Leads (at gate_name self.old) result (λ _. at next_line self.new) }
-        ensures fewer { length (ahead self.new) ≤ length (ahead self.old) }
+        ensures { Advances gate_name self.old result (λ _. next_line) self.new }
     {
         let name = self.gate_name()?;
         self.gate_begin()?;
-        self.gate(INNER_BRACKETS)?;
+        self.line_gate()?;
         self.gate_line_close(name)?;
         self.line_end()
     }
 
     // The whole circuit: the place where the rest of the text begins.
     pub fn circuit_text(&mut self) -> Result<usize, Refusal>
-        ensures leads { Leads (at inputs_line self.old) result (λ place. Granted (so_far self.new) place) }
+        ensures { Leads (at inputs_line self.old) result (λ place. Granted (so_far self.new) place) }
     {
         self.inputs_line()?;
         'lines: loop {

@@ -1,4 +1,3 @@
-pub mod Places
 pub mod Driving
 pub mod Rules
 pub mod Simulating

@@ -1,5 +1,7 @@
 -- One relation between two readings of a circuit: what gates and pins keep, every line keeps.
-use Rattle.std.proofs.Common.{◌≡◌, ℕ, zero, suc, ◌+◌, ◌<◌, Bool, true, false, cond, ◌&&◌, eqb, List, [], ◌∷◌, ◌++◌, length, get_or, Some, None, fold, Option, refl, ap, subst, arith}
+use Rattle.std.proofs.Common.{ℕ, zero, suc, ◌+◌, ◌<◌, Bool, true, false, cond, ◌&&◌, eqb, List, [], ◌∷◌, length, get_or, Some, None, fold, Option, sym, subst, arith}
+use Rattle.std.specs.List.{AllZip}
+use Rattle.std.proofs.lemmas.Slice.Zip.{all_zipped_more, AllZip-long}
 use Rattle.values.specs.Values.{Gates, Values}
 use Rattle.circuit.specs.declared.op.Op.{Op}
 use Rattle.circuit.specs.declared.op.Op.TheVariants.{And, Nand, Or, Nor, Xor, Xnor, Not, Buf}
@@ -29,32 +31,13 @@ stuck_keeps A B R k (Some f) line pin x y r = go (eqb f.line line && eqb f.pin p
     go true = k f.level x y r
     go false = r
 
--- related place by place, and equally long
-abbrev pub Rows : {V W : Type 0} → (V → W → Type 0) → List V → List W → Type 0
-Rows R [] [] = Unit {0}
-Rows R [] (y ∷ ys) = ⊥
-Rows R (x ∷ xs) [] = ⊥
-Rows R (x ∷ xs) (y ∷ ys) = R x y × Rows R xs ys
-
-module _ {V W : Type 0} (R : V → W → Type 0) where
-  rows_length : (xs : List V) (ys : List W) → Rows R xs ys → length xs ≡ length ys
-  rows_length [] [] r = refl
-  rows_length [] (y ∷ ys) r = absurd r
-  rows_length (x ∷ xs) [] r = absurd r
-  rows_length (x ∷ xs) (y ∷ ys) r = ap suc (rows_length xs ys r.1)
-
-  rows_push : (xs : List V) (ys : List W) (x : V) (y : W) → Rows R xs ys → R x y → Rows R (xs ++ (x ∷ [])) (ys ++ (y ∷ []))
-  rows_push [] [] x y r h = (h, tt)
-  rows_push [] (z ∷ ys) x y r h = absurd r
-  rows_push (z ∷ xs) [] x y r h = absurd r
-  rows_push (z ∷ xs) (w ∷ ys) x y r h = (r.0, rows_push xs ys x y r.1 h)
-
-  pub rows_at : (xs : List V) (ys : List W) (d : V) (e : W) (i : ℕ) → Rows R xs ys → R d e → R (get_or xs i d) (get_or ys i e)
-  rows_at [] [] d e i r h = h
-  rows_at [] (z ∷ ys) d e i r h = absurd r
-  rows_at (z ∷ xs) [] d e i r h = absurd r
-  rows_at (z ∷ xs) (w ∷ ys) d e zero r h = r.0
-  rows_at (z ∷ xs) (w ∷ ys) d e (suc i) r h = rows_at xs ys d e i r.1 h
+-- rows that are related place by place are so at each line, given the relation for lines that they lack
+pub rows_at : {V W : Type 0} (R : V → W → Type 0) (xs : List V) (ys : List W) (d : V) (e : W) (i : ℕ) → AllZip R xs ys → R d e → R (get_or xs i d) (get_or ys i e)
+rows_at R [] [] d e i r h = h
+rows_at R [] (z ∷ ys) d e i r h = absurd r
+rows_at R (z ∷ xs) [] d e i r h = absurd r
+rows_at R (z ∷ xs) (w ∷ ys) d e zero r h = r.0
+rows_at R (z ∷ xs) (w ∷ ys) d e (suc i) r h = rows_at R xs ys d e i r.1 h
 
 module _ {V W : Type 0} (A : Values V) (B : Values W) (f g : Option Fault) (R : V → W → Type 0) (k : KeepsGates A.gates B.gates R)
     (p : KeepsPins A B f g R) where
@@ -78,44 +61,44 @@ module _ {V W : Type 0} (A : Values V) (B : Values W) (f g : Option Fault) (R : 
   ended_keeps Not = k.negate
   ended_keeps Buf = λ x y r. r
 
-  folded_keeps : (op : Op) (x : V) (y : W) (xs : List V) (ys : List W) → R x y → Rows R xs ys
+  folded_keeps : (op : Op) (x : V) (y : W) (xs : List V) (ys : List W) → R x y → AllZip R xs ys
       → R (fold (join A.gates op) x xs) (fold (join B.gates op) y ys)
   folded_keeps op x y [] [] r rs = r
   folded_keeps op x y [] (w ∷ ys) r rs = absurd rs
   folded_keeps op x y (u ∷ xs) [] r rs = absurd rs
   folded_keeps op x y (u ∷ xs) (w ∷ ys) r rs = folded_keeps op (join A.gates op x u) (join B.gates op y w) xs ys (join_keeps op x u y w r rs.0) rs.1
 
-  joined_keeps : (op : Op) (xs : List V) (ys : List W) → Rows R xs ys → R (joined A.gates op xs) (joined B.gates op ys)
+  joined_keeps : (op : Op) (xs : List V) (ys : List W) → AllZip R xs ys → R (joined A.gates op xs) (joined B.gates op ys)
   joined_keeps op [] [] r = k.known false
   joined_keeps op [] (w ∷ ys) r = absurd r
   joined_keeps op (u ∷ xs) [] r = absurd r
   joined_keeps op (u ∷ xs) (w ∷ ys) r = folded_keeps op u w xs ys r.0 r.1
 
-  operands_keep : (xs : List V) (ys : List W) (line pin : ℕ) (os : List ℕ) → Rows R xs ys
-      → Rows R (operands_from A f xs line pin os) (operands_from B g ys line pin os)
+  operands_keep : (xs : List V) (ys : List W) (line pin : ℕ) (os : List ℕ) → AllZip R xs ys
+      → AllZip R (operands_from A f xs line pin os) (operands_from B g ys line pin os)
   operands_keep xs ys line pin [] r = tt
   operands_keep xs ys line pin (o ∷ os) r =
       (p line pin _ _ (rows_at R xs ys _ _ o r (k.known false)), operands_keep xs ys line (pin + 1) os r)
 
-  gate_keeps : (xs : List V) (ys : List W) (gate : Gate) → Rows R xs ys → R (gate_value A f xs gate) (gate_value B g ys gate)
+  gate_keeps : (xs : List V) (ys : List W) (gate : Gate) → AllZip R xs ys → R (gate_value A f xs gate) (gate_value B g ys gate)
   gate_keeps xs ys gate r =
       let left = operands_from A f xs (length xs) 1 gate.operands in
       let right = operands_from B g ys (length xs) 1 gate.operands in
       subst (λ (n : ℕ). R (gate_value A f xs gate) (at_pin B g n 0 (ended B.gates gate.op (joined B.gates gate.op (operands_from B g ys n 1 gate.operands)))))
-      (rows_length R xs ys r)
+      (sym (AllZip-long R xs ys r))
       (p (length xs) 0 _ _ (ended_keeps gate.op _ _ (joined_keeps gate.op left right (operands_keep xs ys (length xs) 1 gate.operands r))))
 
-  gates_keep : (gs : List Gate) (xs : List V) (ys : List W) → Rows R xs ys → Rows R (gates_after A f xs gs) (gates_after B g ys gs)
+  gates_keep : (gs : List Gate) (xs : List V) (ys : List W) → AllZip R xs ys → AllZip R (gates_after A f xs gs) (gates_after B g ys gs)
   gates_keep [] xs ys r = r
-  gates_keep (gate ∷ gs) xs ys r = gates_keep gs _ _ (rows_push R xs ys _ _ r (gate_keeps xs ys gate r))
+  gates_keep (gate ∷ gs) xs ys r = gates_keep gs _ _ (all_zipped_more R xs ys _ _ r (gate_keeps xs ys gate r))
 
-  inputs_keep : (a : ℕ → V) (b : ℕ → W) (n : ℕ) → ((i : ℕ) → i < n → R (a i) (b i)) → Rows R (inputs_row A f a n) (inputs_row B g b n)
+  inputs_keep : (a : ℕ → V) (b : ℕ → W) (n : ℕ) → ((i : ℕ) → i < n → R (a i) (b i)) → AllZip R (inputs_row A f a n) (inputs_row B g b n)
   inputs_keep a b zero h = tt
   inputs_keep a b (suc n) h =
-      rows_push R (inputs_row A f a n) (inputs_row B g b n) _ _ (inputs_keep a b n (λ i l. h i (omega arith))) (p n 0 _ _ (h n (omega arith)))
+      all_zipped_more R (inputs_row A f a n) (inputs_row B g b n) _ _ (inputs_keep a b n (λ i l. h i (omega arith))) (p n 0 _ _ (h n (omega arith)))
 
   -- every line keeps what the inputs have
-  pub lines_keep : (c : Circuit) (a : ℕ → V) (b : ℕ → W) → ((i : ℕ) → i < length c.inputs → R (a i) (b i)) → Rows R (lines A c f a) (lines B c g b)
+  pub lines_keep : (c : Circuit) (a : ℕ → V) (b : ℕ → W) → ((i : ℕ) → i < length c.inputs → R (a i) (b i)) → AllZip R (lines A c f a) (lines B c g b)
   lines_keep c a b h = gates_keep c.gates _ _ (inputs_keep a b (length c.inputs) h)
 
   pub line_keeps : (c : Circuit) (a : ℕ → V) (b : ℕ → W) → ((i : ℕ) → i < length c.inputs → R (a i) (b i)) → (d : V) (e : W) → R d e → (line : ℕ)

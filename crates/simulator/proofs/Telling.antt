@@ -1,7 +1,9 @@
 -- What simulations under a lawful kind say of vectors.
-use Rattle.std.proofs.Common.{◌≡◌, ℕ, ◌<◌, Bool, true, false, cond, not, ◌&&◌, ◌||◌, List, [], ◌∷◌, length, Option, sym, refl, ap, ◌∙◌, subst}
-use mathlib.Core.Bool.{false≢true, or-true}
+use Rattle.std.proofs.Common.{◌≡◌, ℕ, ◌<◌, Bool, true, false, cond, List, length, get_or, Option, sym, refl, ap, ◌∙◌, subst, arith}
+use mathlib.Core.Bool.{false≢true}
 use Rattle.std.specs.List.{list_all, list_any}
+use Rattle.std.proofs.lemmas.List.Folds.{Any-from_list_any, list_any-from_Any, list_any_none, list_any_at}
+use Rattle.std.proofs.lemmas.List.Sums.{AllPass-from_list_all, list_all-from_AllPass}
 use Rattle.values.specs.Pairs.{Pair, Pairs, pair, has, ◌∈◌, shows, still, only, Single}
 use Rattle.values.specs.Values.{differs, pairs}
 use Rattle.values.specs.Kind.{Kind, Lawful}
@@ -18,64 +20,31 @@ use Rattle.simulator.proofs.Readings.{vector, pair_is}
 -- what sets of pairs say of their members
 
 shows_differ : (s : Pairs) (g f : Bool) → shows s ≡ true → has s g f ≡ true → differs g f ≡ true
-shows_differ s true false h e = refl
-shows_differ s false true h e = refl
-shows_differ s false false h e = absurd (false≢true (rw e at h))
-shows_differ s true true h e = absurd (right s.has00 s.has11 h e)
-  where
-    right : (a b : Bool) → (not a && not b) ≡ true → b ≡ true → ⊥
-    right true b h e = false≢true h
-    right false true h e = false≢true h
-    right false false h e = false≢true e
+shows_differ s g f h e = grind arith
 
 still_same : (s : Pairs) (g f : Bool) → still s ≡ true → has s g f ≡ true → differs g f ≡ false
-still_same s true true h e = refl
-still_same s false false h e = refl
-still_same s false true h e = absurd (false≢true (rw e at h))
-still_same s true false h e = absurd (right s.has01 s.has10 h e)
-  where
-    right : (a b : Bool) → (not a && not b) ≡ true → b ≡ true → ⊥
-    right true b h e = false≢true h
-    right false true h e = false≢true h
-    right false false h e = false≢true e
+still_same s g f h e = grind arith
 
 only_shows : (g f : Bool) → differs g f ≡ true → shows (only g f) ≡ true
-only_shows true false h = refl
-only_shows false true h = refl
-only_shows true true h = absurd (false≢true h)
-only_shows false false h = absurd (false≢true h)
+only_shows g f h = grind arith
 
 only_still : (g f : Bool) → shows (only g f) ≡ false → still (only g f) ≡ true
-only_still true true h = refl
-only_still false false h = refl
-only_still true false h = absurd (false≢true (sym h))
-only_still false true h = absurd (false≢true (sym h))
+only_still g f h = grind arith
 
 -- one test of a list that follows from another
 
 some_from : {X : Type 0} (p r : X → Bool) → ((x : X) → p x ≡ true → r x ≡ true) → (xs : List X) → list_any p xs ≡ true → list_any r xs ≡ true
-some_from p r h [] e = e
-some_from p r h (x ∷ xs) e = go (p x) refl (some_from p r h xs)
-  where
-    go : (b : Bool) → p x ≡ b → (list_any p xs ≡ true → list_any r xs ≡ true) → (r x || list_any r xs) ≡ true
-    go true y ih = rw (h x y) refl
-    go false y ih = rw (ih (rw y at e)) (or-true (r x))
+some_from p r h xs e = let (k, x, inside, is, passes) = Any-from_list_any p xs e in list_any-from_Any r xs (k, x, inside, is, h x passes)
 
 none_from : {X : Type 0} (p r : X → Bool) → ((x : X) → p x ≡ true → r x ≡ false) → (xs : List X) → list_all p xs ≡ true → list_any r xs ≡ false
-none_from p r h [] e = refl
-none_from p r h (x ∷ xs) e = go (p x) refl (none_from p r h xs)
-  where
-    go : (b : Bool) → p x ≡ b → (list_all p xs ≡ true → list_any r xs ≡ false) → (r x || list_any r xs) ≡ false
-    go true y ih = rw (h x y) (ih (rw y at e))
-    go false y ih = absurd (false≢true (rw y at e))
+none_from p r h xs e = list_any_none r xs (λ k d inside. h (get_or xs k d) (AllPass-from_list_all p xs e k d inside))
 
 every_from : {X : Type 0} (p r : X → Bool) → ((x : X) → p x ≡ false → r x ≡ true) → (xs : List X) → list_any p xs ≡ false → list_all r xs ≡ true
-every_from p r h [] e = refl
-every_from p r h (x ∷ xs) e = go (p x) refl (every_from p r h xs)
+every_from p r h xs e = list_all-from_AllPass r xs (λ k d inside. h (get_or xs k d) (no k d inside (p (get_or xs k d)) refl))
   where
-    go : (b : Bool) → p x ≡ b → (list_any p xs ≡ false → list_all r xs ≡ true) → (r x && list_all r xs) ≡ true
-    go false y ih = rw (h x y) (ih (rw y at e))
-    go true y ih = absurd (false≢true (sym (rw y at e)))
+    no : (k : ℕ) (d : _) → k < length xs → (b : Bool) → p (get_or xs k d) ≡ b → p (get_or xs k d) ≡ false
+    no k d inside false y = y
+    no k d inside true y = absurd (false≢true (sym e ∙ list_any_at p xs k d inside y))
 
 module _ (K : Kind) (M : Pairs → Type 0) (l : Lawful K M) where
   -- a set of the family that has the pair

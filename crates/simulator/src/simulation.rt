@@ -38,6 +38,7 @@ fn drive<V: ValueKind>(cube: Cube, fault: Option<Fault>, row: &mut [V])
 }
 
 // Works out the lines of the gates, below which those of the inputs stand.
+#[tactic(auto, using(crate::proofs::Rules::fits_at, std::proofs::lemmas::Grind::common_steps))]
 fn settle<V: ValueKind>(inputs: usize, gates: &[Gate], fault: Option<Fault>, row: &mut [V])
     requires fit { each_after (λ (before : List GateModel). gate_fits (inputs + length before)) [] (map gate_model gates.now) ≡ true }
     requires room { inputs + length gates.now ≡ length row.old }

@@ -60,6 +60,6 @@ impl Plug<'_> {
     pub fn unplug(self)
         ensures { self.exit.0.now.fault ≡ None }
     {
-        let _ended = self;
+        drop(self);
     }
 }

@@ -1,25 +1,68 @@
 -- One turn of the visit below a cube.
-use Rattle.std.proofs.Common.{◌≡◌, ℕ, suc, ◌+◌, ◌-◌, ◌<◌, sym, refl, ap, ◌∙◌, arith}
+use Rattle.std.proofs.Common.{◌≡◌, ℕ, zero, suc, ◌+◌, ◌-◌, ◌<◌, Bool, true, cond, not, ◌&&◌, sym, refl, ap, ◌∙◌, arith}
 use Rattle.faults.specs.Cubes.{Cube}
 use Rattle.simulator.specs.declared.verdict.Verdict.{Verdict}
-use Rattle.visit.specs.Visiting.{Progress, drive, met, below}
+use Rattle.visit.specs.declared.progress.Progress as code
+use Rattle.visit.specs.Visits.{going_on}
+use Rattle.visit.specs.Visiting.{Progress, fewer, drive, due, met, below}
 
-module _ (judge : Cube → Verdict) (budget inputs : ℕ) (q : Cube) where
-  abbrev deeper : ℕ → Cube → Progress → Progress
-  deeper i = below judge budget inputs (inputs - (i + 1))
+-- how far a visit of the code had come that was given up
+abbrev pub given_up : code.Progress → Progress
+given_up p = record (going_on p) { spent = true }
 
-  -- input i is driven to 0, then to 1, then the inputs above it
-  pub below_turn : (i : ℕ) → i < inputs → (p : Progress)
-      → below judge budget inputs (inputs - i) q p ≡ deeper i q (met judge budget (deeper i) (drive q i 1) (met judge budget (deeper i) (drive q i 0) p))
-  below_turn i h p =
-      let m : ℕ = inputs - (i + 1) in
-      let left : inputs - i ≡ suc m = omega arith in
-      let here : inputs - suc m ≡ i = omega arith in
-      ap (λ (n : ℕ). below judge budget inputs n q p) left
-      ∙ ap (λ (j : ℕ). below judge budget inputs m q (met judge budget (below judge budget inputs m) (drive q j 1) (met judge budget (below judge budget inputs m) (drive q j 0) p))) here
+module _ (judge : Cube → Verdict) (budget inputs : ℕ) where
+  -- a visit that was given up meets no further cube
+  met_given_up : (deeper : Cube → Progress → Progress) (q : Cube) (p : Progress) → p.spent ≡ true → met judge budget deeper q p ≡ p
+  met_given_up deeper q p h = ap (λ (b : Bool). cond (not b && fewer q p.best) (due judge budget deeper q p) p) h
 
-  -- the progress after one turn, as the code makes it
-  pub turned : (i : ℕ) → i < inputs → (p p0 p1 : Progress) (q0 q1 : Cube) → q0 ≡ drive q i 0 → q1 ≡ drive q i 1
-      → p0 ≡ met judge budget (deeper i) q0 p → p1 ≡ met judge budget (deeper i) q1 p0
-      → below judge budget inputs (inputs - (i + 1)) q p1 ≡ below judge budget inputs (inputs - i) q p
-  turned i h p p0 p1 q0 q1 e0 e1 f0 f1 = sym (below_turn i h p ∙ sym (rw (f1, f0, e0, e1) refl))
+  below_given_up : (m : ℕ) (q : Cube) (p : Progress) → p.spent ≡ true → below judge budget inputs m q p ≡ p
+  below_given_up zero q p h = refl
+  below_given_up (suc m) q p h =
+      let below_this : Cube → Progress → Progress = below judge budget inputs m in
+      ap (λ (x : Progress). below_this q (met judge budget below_this (drive q (inputs - suc m) 1) x)) (met_given_up below_this (drive q (inputs - suc m) 0) p h)
+      ∙ ap (below_this q) (met_given_up below_this (drive q (inputs - suc m) 1) p h)
+      ∙ below_given_up m q p h
+
+  module _ (q : Cube) (i : ℕ) (h : i < inputs) where
+    abbrev deeper : Cube → Progress → Progress
+    deeper = below judge budget inputs (inputs - (i + 1))
+
+    -- input i is driven to 0, then to 1, then the inputs above it
+    below_turn : (p : Progress) → below judge budget inputs (inputs - i) q p ≡ deeper q (met judge budget deeper (drive q i 1) (met judge budget deeper (drive q i 0) p))
+    below_turn p =
+        let m : ℕ = inputs - (i + 1) in
+        let left : inputs - i ≡ suc m = omega arith in
+        let here : inputs - suc m ≡ i = omega arith in
+        ap (λ (n : ℕ). below judge budget inputs n q p) left
+        ∙ ap (λ (j : ℕ). below judge budget inputs m q (met judge budget (below judge budget inputs m) (drive q j 1) (met judge budget (below judge budget inputs m) (drive q j 0) p))) here
+
+    -- the progress p0 after meeting the branch in which input i is driven to that level, as the code meets it
+    abbrev pub Meets : ℕ → Progress → Progress → Type 0
+    Meets level p p0 = (branch : Cube) × (next : ℕ) × (branch ≡ drive q i level) × (next ≡ i + 1) × (p0 ≡ met judge budget (below judge budget inputs (inputs - next)) branch p)
+
+    meets_is : (level : ℕ) (p p0 : Progress) → Meets level p p0 → p0 ≡ met judge budget deeper (drive q i level) p
+    meets_is level p p0 (branch, next, is, above, e) = e ∙ rw (is, above) refl
+
+    module _ (p p0 : Progress) (zero_met : Meets 0 p p0) where
+      -- given up in the branch of 0
+      pub given_up_first : p0.spent ≡ true → p0 ≡ below judge budget inputs (inputs - i) q p
+      given_up_first s =
+          sym (
+          below_turn p
+          ∙ ap (λ (x : Progress). deeper q (met judge budget deeper (drive q i 1) x)) (sym (meets_is 0 p p0 zero_met))
+          ∙ ap (deeper q) (met_given_up deeper (drive q i 1) p0 s)
+          ∙ below_given_up (inputs - (i + 1)) q p0 s
+          )
+
+      -- the progress after one turn
+      pub turned : (p1 : Progress) → Meets 1 p0 p1 → deeper q p1 ≡ below judge budget inputs (inputs - i) q p
+      turned p1 one_met =
+          sym (
+          below_turn p
+          ∙ ap (λ (x : Progress). deeper q (met judge budget deeper (drive q i 1) x)) (sym (meets_is 0 p p0 zero_met))
+          ∙ ap (deeper q) (sym (meets_is 1 p0 p1 one_met))
+          )
+
+      -- given up in the branch of 1
+      pub given_up_second : (p1 : Progress) → Meets 1 p0 p1 → p1.spent ≡ true → p1 ≡ below judge budget inputs (inputs - i) q p
+      given_up_second p1 one_met s = sym (below_given_up (inputs - (i + 1)) q p1 s) ∙ turned p1 one_met

@@ -10,9 +10,10 @@ use Rattle.faults.specs.declared.fault.Fault.{Fault}
 use Rattle.faults.specs.Cubes.{Cube, nothing_driven}
 use Rattle.simulator.specs.Detection.{verdict}
 use Rattle.visit.specs.declared.answer.Answer as code
-use Rattle.visit.specs.Visiting.{Progress, met, below, at_start, Answer, progress_answer, answer}
+use Rattle.visit.specs.Visiting.{Progress, met, below, at_start, Answer, progress_answer, answer, answer_tries}
 use Rattle.visit.specs.Meaning.{Means}
 use Rattle.visit.specs.Visits.{answer_model, Visits}
+use Rattle.visit.proofs.Counting.{answer_within}
 use Rattle.visit.proofs.Meanings.{answer_means}
 
 module _ (K : Kind) (M : Pairs → Type 0) (l : Lawful K M) (c : Circuit) (f : Fault) (budget places : ℕ) where
@@ -20,13 +21,13 @@ module _ (K : Kind) (M : Pairs → Type 0) (l : Lawful K M) (c : Circuit) (f : F
   inputs = length c.inputs
 
   -- the cube with nothing driven is met with the fault plugged
-  pub visit_is : (plugged : Option Fault) (q : Cube) (start end : Progress) (r : code.Answer)
-      → plugged ≡ Some f → q ≡ nothing_driven → start ≡ at_start
-      → end ≡ met (verdict K c plugged) budget (below (verdict K c plugged) budget inputs (inputs - 0)) q start
+  pub visit_is : (plugged : Option Fault) (q : Cube) (next : ℕ) (start end : Progress) (r : code.Answer)
+      → plugged ≡ Some f → q ≡ nothing_driven → next ≡ 0 → start ≡ at_start
+      → end ≡ met (verdict K c plugged) budget (below (verdict K c plugged) budget inputs (inputs - next)) q start
       → answer_model r ≡ progress_answer end → answer_model r ≡ answer K c f budget
-  visit_is plugged q start end r plug nothing begin e is =
+  visit_is plugged q next start end r plug nothing first begin e is =
       is ∙ ap progress_answer e
-      ∙ ap (λ (n : ℕ). progress_answer (met (verdict K c plugged) budget (below (verdict K c plugged) budget inputs n) q start)) (sub-zero inputs)
+      ∙ ap (λ (n : ℕ). progress_answer (met (verdict K c plugged) budget (below (verdict K c plugged) budget inputs n) q start)) (ap (λ (n : ℕ). inputs - n) first ∙ sub-zero inputs)
       ∙ ap (λ (o : Option Fault). progress_answer (met (verdict K c o) budget (below (verdict K c o) budget inputs inputs) q start)) plug
       ∙ ap (λ (p : Cube). progress_answer (met (verdict K c (Some f)) budget (below (verdict K c (Some f)) budget inputs inputs) p start)) nothing
       ∙ ap (λ (p : Progress). progress_answer (met (verdict K c (Some f)) budget (below (verdict K c (Some f)) budget inputs inputs) nothing_driven p)) begin
@@ -35,4 +36,5 @@ module _ (K : Kind) (M : Pairs → Type 0) (l : Lawful K M) (c : Circuit) (f : F
   visits r h e = record {
     answer = sym (ap (λ (b : Bool). cond b (Err RowTooShort) (Ok (answer K c f budget))) (le-ltb places (line_count c) h) ∙ ap (λ (a : Answer). Ok a) (sym e));
     means = subst (λ (a : Answer). Means K c f a) (sym e) (answer_means K M l c f budget);
+    within = subst (λ (a : Answer). answer_tries a ≤ budget) (sym e) (answer_within K c f budget);
   }

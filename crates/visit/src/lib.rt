@@ -2,6 +2,7 @@
 #![tactic(auto)]
 
 pub mod answer;
+mod branch;
 mod known;
 mod progress;
 pub mod visiting;

@@ -1,11 +1,53 @@
 // How far a visit has come.
+ghost use Rattle.std.specs.Prelude.{◌≡◌};
+ghost use Rattle.std.specs.Option.{option_map};
+ghost use Rattle.faults.specs.Cubes.{cube_model};
+ghost use Rattle.visit.specs.Visiting.{fewer, at_start, progress_answer};
+ghost use Rattle.visit.specs.Visits.{going_on, left, answer_model};
+
+use crate::answer::Answer;
 use faults::Cube;
 
-#[derive(Drop)]
+#[derive(Clone, Copy)]
 pub struct Progress {
     // the cube that shows with the fewest driven inputs so far
     pub best: Option<Cube>,
     pub tries: usize,
-    // whether a try was due when none was left
-    pub spent: bool,
+}
+
+// Why a visit is given up: a try is due, and the budget allows none.
+#[derive(Clone, Copy)]
+pub struct BudgetSpent;
+
+impl Progress {
+    pub fn new() -> Progress
+        ensures { going_on result ≡ at_start }
+    {
+        Progress {
+            best: None,
+            tries: 0,
+        }
+    }
+
+    // Whether a cube drives fewer inputs than the best, or there is no best.
+    pub fn lacks(&self, cube: Cube) -> bool
+        ensures { result ≡ fewer (cube_model cube) (option_map cube_model self.now.best) }
+    {
+        match self.best {
+            Some(best) => cube.driven().count_ones() < best.driven().count_ones(),
+            None => true,
+        }
+    }
+
+    // The answer of a visit that ended so.
+    pub fn answer(&self, end: Result<(), BudgetSpent>) -> Answer
+        ensures { answer_model result ≡ progress_answer (left self.now end) }
+    {
+        let tries = self.tries;
+        match (end, self.best) {
+            (Err(BudgetSpent), best) => Answer::Spent { best, tries },
+            (Ok(()), Some(cube)) => Answer::Fewest { cube, tries },
+            (Ok(()), None) => Answer::Redundant { tries },
+        }
+    }
 }

@@ -1,140 +1,116 @@
 // The visit: depth first, inputs in rising order, 0 before 1.
-ghost use Rattle.std.specs.Prelude.{◌≡◌, ◌+◌, ◌-◌, ◌^◌, ◌<◌, ◌≤◌, false, length, if◌then◌else◌, None, MatchResult};
-ghost use Rattle.std.specs.Option.{option_map};
+ghost use Rattle.std.specs.Prelude.{◌≡◌, ◌+◌, ◌-◌, ◌≤◌, false, length, if◌then◌else◌, None, MatchResult};
 ghost use Rattle.circuit.specs.Circuits.{circuit_model};
 ghost use Rattle.circuit.specs.Model.{line_count};
-ghost use Rattle.faults.specs.Cubes.{cube_model};
+ghost use Rattle.faults.specs.Cubes.{cube_model, nothing_driven};
 ghost use Rattle.simulator.specs.Detection.{verdict};
 ghost use Rattle.simulator.specs.Simulation.{drives_beyond};
-ghost use Rattle.visit.specs.Visiting.{fewer, drive, met, below, at_start, progress_answer};
-ghost use Rattle.visit.specs.Visits.{progress_model, answer_model, Visits};
+ghost use Rattle.visit.specs.Visiting.{drive, met, below};
+ghost use Rattle.visit.specs.Visits.{going_on, left, Visits};
 
 use crate::answer::Answer;
-use crate::progress::Progress;
+use crate::branch::Branch;
+use crate::progress::{BudgetSpent, Progress};
 use circuit::Circuit;
 use faults::{Cube, Fault};
 use refusals::FolderRefusal;
 use simulator::{Socket, Verdict, simulate};
 use values::kind::ValueKind;
 
-impl Progress {
-    fn new() -> Progress
-        ensures { progress_model result ≡ at_start }
+impl Branch {
+    // All cubes: the one with nothing driven, and those below it.
+    fn whole() -> Branch
+        ensures cube { cube_model result.cube ≡ nothing_driven }
+        ensures next { result.next ≡ 0 }
     {
-        Progress {
-            best: None,
-            tries: 0,
-            spent: false,
+        Branch {
+            cube: Cube::nothing(),
+            next: 0,
         }
     }
 
-    // Whether a cube drives fewer inputs than the best, or there is no best.
-    fn lacks(&self, cube: Cube) -> bool
-        ensures { result ≡ fewer (cube_model cube) (option_map cube_model self.now.best) }
+    // The branch with that input driven too, which is above each input that is driven already.
+    fn driving(self, input: usize, level: bool) -> Branch
+        requires above { self.next ≤ input }
+        requires room { input ≤ 63 }
+        ensures cube { cube_model result.cube ≡ drive (cube_model self.cube) input (if level then 1 else 0) }
+        ensures next { result.next ≡ input + 1 }
     {
-        match self.best {
-            Some(best) => cube.driven().count_ones() < best.driven().count_ones(),
-            None => true,
-        }
-    }
-
-    fn answer(&self) -> Answer
-        ensures { answer_model result ≡ progress_answer (progress_model self.now) }
-    {
-        let tries = self.tries;
-        if self.spent {
-            return Answer::Spent {
-                best: self.best,
-                tries,
-            };
-        }
-        match self.best {
-            Some(cube) => Answer::Fewest { cube, tries },
-            None => Answer::Redundant { tries },
+        Branch {
+            cube: self.cube.driving(input, level),
+            next: input + 1,
         }
     }
 }
 
-// The verdict on a cube of the circuit's inputs, in a row with room for each line.
-fn verdict_on<V: ValueKind>(
-    circuit: &Circuit,
-    cube: Cube,
-    socket: &Socket,
-    row: &mut [V],
-) -> Verdict
-    requires inside { drives_beyond (circuit_model circuit.now) (cube_model cube) ≡ false }
-    requires room { line_count (circuit_model circuit.now) ≤ length row.old }
-    ensures { result ≡ verdict V.ValueKind.kind (circuit_model circuit.now) socket.now.fault (cube_model cube) }
-{
-    match simulate(circuit, cube, socket, row) {
-        Ok(verdict) => verdict,
-        Err(_) => unreachable(),
-    }
-}
-
-// The cube with that input driven too, which is above each input that is driven already.
-fn child(cube: Cube, input: usize, level: bool) -> Cube
-    requires room { input ≤ 63 }
-    requires lower { cube.driven < 2 ^ input }
-    ensures value { cube_model result ≡ drive (cube_model cube) input (if level then 1 else 0) }
-    ensures lower { result.driven < 2 ^ (input + 1) }
-{
-    cube.driving(input, level)
-}
-
-// Meets a cube that drives none of the inputs from `next` on: tries it, if it drives fewer inputs than the best, and goes
-// on below it, if it is unsure.
-#[cycle(go_below_meet)]
-fn meet<V: ValueKind>(
-    circuit: &Circuit,
-    socket: &Socket,
+// What a visit leaves as it is: the circuit, the socket with the fault, and how many tries it may make. (The row, which each
+// try writes, stays a parameter: beside it in a struct, each method would have to say that these three stay.)
+#[derive(Clone, Copy)]
+struct Setting<'a> {
+    circuit: &'a Circuit,
+    socket: &'a Socket,
     budget: usize,
-    cube: Cube,
-    next: usize,
-    progress: &mut Progress,
-    row: &mut [V],
-)
-    requires room { line_count (circuit_model circuit.now) ≤ length row.old }
-    requires inside { next ≤ length (circuit_model circuit.now).inputs }
-    requires lower { cube.driven < 2 ^ next }
-    ensures { progress_model progress.new ≡ met (verdict V.ValueKind.kind (circuit_model circuit.now) socket.now.fault) budget (below (verdict V.ValueKind.kind (circuit_model circuit.now) socket.now.fault) budget (length (circuit_model circuit.now).inputs) (length (circuit_model circuit.now).inputs - next)) (cube_model cube) (progress_model progress.old) }
-{
-    if progress.spent || !progress.lacks(cube) {
-        return;
-    }
-    if progress.tries >= budget {
-        progress.spent = true;
-        return;
-    }
-    progress.tries += 1;
-    match verdict_on(circuit, cube, socket, row) {
-        Verdict::Shows => progress.best = Some(cube),
-        Verdict::Still => {}
-        Verdict::Unsure => go_below(circuit, socket, budget, cube, next, progress, row),
-    }
 }
 
-// Visits all cubes below one that drives none of the inputs from `next` on.
-#[cycle(go_below_meet)]
-fn go_below<V: ValueKind>(
-    circuit: &Circuit,
-    socket: &Socket,
-    budget: usize,
-    cube: Cube,
-    next: usize,
-    progress: &mut Progress,
-    row: &mut [V],
-)
-    requires room { line_count (circuit_model circuit.now) ≤ length row.old }
-    requires inside { next ≤ length (circuit_model circuit.now).inputs }
-    requires lower { cube.driven < 2 ^ next }
-    ensures { progress_model progress.new ≡ below (verdict V.ValueKind.kind (circuit_model circuit.now) socket.now.fault) budget (length (circuit_model circuit.now).inputs) (length (circuit_model circuit.now).inputs - next) (cube_model cube) (progress_model progress.old) }
-{
-    for input in next..circuit.input_count() {
-        let at_zero = child(cube, input, false);
-        meet(circuit, socket, budget, at_zero, input + 1, progress, row);
-        let at_one = child(cube, input, true);
-        meet(circuit, socket, budget, at_one, input + 1, progress, row);
+impl Setting<'_> {
+    // The verdict on a cube of the circuit's inputs, in a row with room for each line.
+    fn verdict_on<V: ValueKind>(&self, cube: Cube, row: &mut [V]) -> Verdict
+        requires inside { drives_beyond (circuit_model self.now.circuit.now) (cube_model cube) ≡ false }
+        requires room { line_count (circuit_model self.now.circuit.now) ≤ length row.old }
+        ensures { result ≡ verdict V.ValueKind.kind (circuit_model self.now.circuit.now) self.now.socket.now.fault (cube_model cube) }
+    {
+        match simulate(self.circuit, cube, self.socket, row) {
+            Ok(verdict) => verdict,
+            Err(_) => unreachable(),
+        }
+    }
+
+    // Meets a cube: tries it, if it drives fewer inputs than the best, and goes on below it, if it is unsure.
+    #[cycle(go_below_meet)]
+    fn meet<V: ValueKind>(
+        &self,
+        branch: Branch,
+        progress: &mut Progress,
+        row: &mut [V],
+    ) -> Result<(), BudgetSpent>
+        requires room { line_count (circuit_model self.now.circuit.now) ≤ length row.old }
+        requires inside { branch.next ≤ length (circuit_model self.now.circuit.now).inputs }
+        ensures { left progress.new result ≡ met (verdict V.ValueKind.kind (circuit_model self.now.circuit.now) self.now.socket.now.fault) self.now.budget (below (verdict V.ValueKind.kind (circuit_model self.now.circuit.now) self.now.socket.now.fault) self.now.budget (length (circuit_model self.now.circuit.now).inputs) (length (circuit_model self.now.circuit.now).inputs - branch.next)) (cube_model branch.cube) (going_on progress.old) }
+    {
+        if !progress.lacks(branch.cube) {
+            return Ok(());
+        }
+        if progress.tries >= self.budget {
+            return Err(BudgetSpent);
+        }
+        progress.tries += 1;
+        match self.verdict_on(branch.cube, row) {
+            Verdict::Shows => {
+                progress.best = Some(branch.cube);
+                Ok(())
+            }
+            Verdict::Still => Ok(()),
+            Verdict::Unsure => self.go_below(branch, progress, row),
+        }
+    }
+
+    // Visits all cubes below one.
+    #[cycle(go_below_meet)]
+    fn go_below<V: ValueKind>(
+        &self,
+        branch: Branch,
+        progress: &mut Progress,
+        row: &mut [V],
+    ) -> Result<(), BudgetSpent>
+        requires room { line_count (circuit_model self.now.circuit.now) ≤ length row.old }
+        requires inside { branch.next ≤ length (circuit_model self.now.circuit.now).inputs }
+        ensures { left progress.new result ≡ below (verdict V.ValueKind.kind (circuit_model self.now.circuit.now) self.now.socket.now.fault) self.now.budget (length (circuit_model self.now.circuit.now).inputs) (length (circuit_model self.now.circuit.now).inputs - branch.next) (cube_model branch.cube) (going_on progress.old) }
+    {
+        for input in branch.next..self.circuit.input_count() {
+            self.meet(branch.driving(input, false), progress, row)?;
+            self.meet(branch.driving(input, true), progress, row)?;
+        }
+        Ok(())
     }
 }
 
@@ -157,15 +133,12 @@ pub fn visit<V: ValueKind>(
     }
     let mut progress = Progress::new();
     let plug = socket.plug(fault);
-    meet(
+    let setting = Setting {
         circuit,
-        plug.socket(),
+        socket: plug.socket(),
         budget,
-        Cube::nothing(),
-        0,
-        &mut progress,
-        row,
-    );
+    };
+    let end = setting.meet(Branch::whole(), &mut progress, row);
     plug.unplug();
-    Ok(progress.answer())
+    Ok(progress.answer(end))
 }

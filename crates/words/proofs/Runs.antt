@@ -1,12 +1,12 @@
 -- The lexemes of a text after a space, and of a run of letters and digits.
 use Rattle.std.proofs.Common.{◌≡◌, ℕ, zero, suc, ◌+◌, ◌-◌, ◌<◌, ◌≤◌, Bool, true, false, cond, eqb, ◌⊎◌, List, [], ◌∷◌, length, get_or, take, drop, sym, refl, ap, ◌∙◌, subst, inl, inr, arith}
 use Rattle.std.specs.List.{prefix_len}
-use Rattle.std.proofs.lemmas.List.{drop_more, drop-drop, length-take-le}
-use Rattle.std.proofs.lemmas.List.Sums.{prefix_len-drop_yes, prefix_len-le-length}
-use Rattle.std.proofs.lemmas.Bool.{eq-eqb, ne_eqb, cases_Bool}
+use Rattle.std.proofs.lemmas.List.{drop_more, drop-drop, get_or-drop, length-drop, length-take-le}
+use Rattle.std.proofs.lemmas.List.Sums.{prefix_len-drop_yes, prefix_len-drop_no, prefix_len-drop_all, prefix_len-le-length, prefix_len_stops}
+use Rattle.std.proofs.lemmas.Bool.{eq-eqb, ne_eqb, cases_Bool, cases_lt}
 use Rattle.words.specs.declared.bytes.ByteClass.{ByteClass}
 use Rattle.words.specs.declared.bytes.ByteClass.TheVariants as class_of
-use Rattle.words.specs.Bytes.{class, in_word}
+use Rattle.words.specs.Bytes.{class, in_word, is_of}
 use Rattle.words.specs.Lexemes.{Lexeme, Opening, Closing, Word, LineEnd, TextEnd, Forbidden, prefixed, begun, lexemes, lexemes_from}
 
 -- one byte on, by its class
@@ -77,30 +77,12 @@ joins : (b n : ℕ) (bytes : List ℕ) (ts : List Lexeme) → prefixed b n (Word
 joins b n bytes ts =
     ap (λ (t : Bool). cond t (Word (b ∷ bytes) n ∷ ts) (Word (b ∷ []) n ∷ (Word bytes (n + 1) ∷ ts))) (eq-eqb (n + 1) (n + 1) refl)
 
-class_in : (b : ℕ) → in_word b ≡ true → class b ≡ class_of.InWord
-class_in b h = rw h refl
+-- a byte is of its class, and of no other
+class_yes : (b : ℕ) (c : ByteClass) → is_of c b ≡ true → class b ≡ c
+class_yes b c h = grind arith
 
-abbrev ByteClassNumber : ByteClass → ℕ
-ByteClassNumber class_of.InWord = 0
-ByteClassNumber class_of.Opening = 1
-ByteClassNumber class_of.Closing = 1
-ByteClassNumber class_of.Space = 1
-ByteClassNumber class_of.LineFeed = 1
-ByteClassNumber class_of.Forbidden = 1
-
--- a class other than InWord, of a byte that is no letter or digit
-class_out : (b : ℕ) → in_word b ≡ false → class b ≡ class_of.InWord → ⊥
-class_out b h e = go (eqb b 40) (eqb b 41) (eqb b 32) (eqb b 10) (rw h at e)
-  where
-    never : (c : ByteClass) → ByteClassNumber c ≡ 1 → c ≡ class_of.InWord → ⊥
-    never c z y = let k : ◌≡◌ {A = ℕ} 0 1 = sym (ap ByteClassNumber y) ∙ z in omega arith
-
-    go : (p q r s : Bool) → cond p class_of.Opening (cond q class_of.Closing (cond r class_of.Space (cond s class_of.LineFeed class_of.Forbidden))) ≡ class_of.InWord → ⊥
-    go true q r s y = never _ refl y
-    go false true r s y = never _ refl y
-    go false false true s y = never _ refl y
-    go false false false true y = never _ refl y
-    go false false false false y = never _ refl y
+class_no : (b : ℕ) (c : ByteClass) → is_of c b ≡ false → class b ≡ c → ⊥
+class_no b c h e = grind arith
 
 -- after the last byte of a run, the lexemes do not begin with a word right there
 ended : (b n : ℕ) (bs : List ℕ) → prefix_len in_word bs ≡ 0 → prefixed b n (lexemes (n + 1) bs) ≡ Word (b ∷ []) n ∷ lexemes (n + 1) bs
@@ -111,7 +93,7 @@ ended b n (d ∷ bs) h = go (class d) refl
     out e = let z : prefix_len in_word (d ∷ bs) ≡ 1 + prefix_len in_word bs = rw e refl in omega arith
 
     go : (c : ByteClass) → class d ≡ c → prefixed b n (begun c d (n + 1) (lexemes (n + 1 + 1) bs)) ≡ Word (b ∷ []) n ∷ begun c d (n + 1) (lexemes (n + 1 + 1) bs)
-    go class_of.InWord e = absurd (elim (cases_Bool (in_word d)) [ inl y ↦ out y | inr y ↦ class_out d y e ])
+    go class_of.InWord e = absurd (elim (cases_Bool (in_word d)) [ inl y ↦ out y | inr y ↦ class_no d class_of.InWord y e ])
     go class_of.Opening e = refl
     go class_of.Closing e = refl
     go class_of.Space e = alone b n (lexemes (n + 1 + 1) bs) (inl (after (lexemes (n + 1 + 1) bs) (first_late (n + 1 + 1) bs)))
@@ -146,7 +128,7 @@ word_run n (b ∷ bs) k h = go (word_run (n + 1) bs) (cases_Bool (in_word b))
         ∙ ap (λ (i : ℕ). Word (take (suc i) (b ∷ bs)) n ∷ lexemes (n + suc i) (drop (suc i) (b ∷ bs))) same
 
     go : WordFirst (n + 1) bs → (in_word b ≡ true) ⊎ (in_word b ≡ false) → lexemes n (b ∷ bs) ≡ Word (take (suc k) (b ∷ bs)) n ∷ lexemes (n + suc k) (drop (suc k) (b ∷ bs))
-    go run (inl y) = ap (λ (c : ByteClass). begun c b n (lexemes (n + 1) bs)) (class_in b y) ∙ rest run (prefix_len in_word bs) refl (inside y)
+    go run (inl y) = ap (λ (c : ByteClass). begun c b n (lexemes (n + 1) bs)) (class_yes b class_of.InWord y) ∙ rest run (prefix_len in_word bs) refl (inside y)
     go run (inr y) = let z : prefix_len in_word (b ∷ bs) ≡ 0 = rw y refl in absurd (omega arith)
 
 -- the word that begins at a place of a text, up to the place where its run ends
@@ -162,7 +144,7 @@ word_at text n end h e c = go (prefix_len in_word (drop n text)) refl
     some z =
         elim (cases_Bool (in_word (get_or text n 0))) [
           | inl y ↦ omega (arith, prefix_len-drop_yes in_word text n 0 h y)
-          | inr y ↦ class_out (get_or text n 0) y c
+          | inr y ↦ class_no (get_or text n 0) class_of.InWord y c
         ]
 
     go : (k : ℕ) → prefix_len in_word (drop n text) ≡ k → RunOf text n end
@@ -180,3 +162,31 @@ word_at text n end h e c = go (prefix_len in_word (drop n text)) refl
           after = omega arith;
           forward = omega arith;
         }
+
+-- past a run of spaces the lexemes are the same
+module _ (text : List ℕ) where
+  skipped : (k n : ℕ) → prefix_len (is_of class_of.Space) (drop n text) ≡ k → lexemes_from text n ≡ lexemes_from text (n + k)
+  skipped zero n h = ap (lexemes_from text) (omega arith)
+  skipped (suc k) n h = go (skipped k (n + 1)) (cases_lt n (length text))
+    where
+      at : (prefix_len (is_of class_of.Space) (drop (n + 1) text) ≡ k → lexemes_from text (n + 1) ≡ lexemes_from text (n + 1 + k)) → n < length text
+          → (is_of class_of.Space (get_or text n 0) ≡ true) ⊎ (is_of class_of.Space (get_or text n 0) ≡ false) → lexemes_from text n ≡ lexemes_from text (n + suc k)
+      at rest l (inr e) = absurd (omega (arith, prefix_len-drop_no (is_of class_of.Space) text n 0 l e))
+      at rest l (inl e) =
+          byte_step text n class_of.Space l (class_yes (get_or text n 0) class_of.Space e)
+          ∙ rest (omega (arith, prefix_len-drop_yes (is_of class_of.Space) text n 0 l e))
+          ∙ ap (lexemes_from text) (omega arith)
+
+      go : (prefix_len (is_of class_of.Space) (drop (n + 1) text) ≡ k → lexemes_from text (n + 1) ≡ lexemes_from text (n + 1 + k)) → (n < length text) ⊎ (length text ≤ n)
+          → lexemes_from text n ≡ lexemes_from text (n + suc k)
+      go rest (inl l) = at rest l (cases_Bool (is_of class_of.Space (get_or text n 0)))
+      go rest (inr l) = absurd (omega (arith, prefix_len-drop_all (is_of class_of.Space) text n l))
+
+  pub spaces_skipped : (n end : ℕ) → end ≡ n + prefix_len (is_of class_of.Space) (drop n text) → lexemes_from text n ≡ lexemes_from text end
+  spaces_skipped n end e = skipped (prefix_len (is_of class_of.Space) (drop n text)) n refl ∙ ap (lexemes_from text) (sym e)
+
+  pub no_space : (n end : ℕ) → end ≡ n + prefix_len (is_of class_of.Space) (drop n text) → end < length text → class (get_or text end 0) ≡ class_of.Space → ⊥
+  no_space n end e l s =
+      let stop = prefix_len_stops (is_of class_of.Space) (drop n text) 0 (rw length-drop (omega arith)) in
+      let read : get_or (drop n text) (prefix_len (is_of class_of.Space) (drop n text)) 0 ≡ get_or text end 0 = get_or-drop n text _ 0 ∙ ap (λ (i : ℕ). get_or text i 0) (sym e) in
+      class_no (get_or text end 0) class_of.Space (sym (ap (is_of class_of.Space) read) ∙ stop) s

@@ -1,9 +1,11 @@
 -- Lexemes that are not what is due, and how they are refused.
-use Rattle.std.specs.Prelude.{◌≡◌, Bool, true, false, cond}
+use Rattle.std.specs.Prelude.{◌≡◌, ℕ, Bool, true, false, cond}
 use Rattle.refusals.specs.declared.cause.Refusal.{Refusal}
 use Rattle.refusals.specs.declared.cause.Refusal.TheVariants as refusal
 use Rattle.refusals.specs.declared.layers.TextRefusal.TheVariants.{ForbiddenByte, MalformedWord}
 use Rattle.refusals.specs.declared.layers.FormRefusal.TheVariants.{Misplaced}
+use Rattle.words.specs.declared.expect.Mark.{Mark}
+use Rattle.words.specs.declared.expect.Mark.TheVariants as mark
 use Rattle.words.specs.Lexemes.{Lexeme, Opening, Closing, Word, LineEnd, TextEnd, Forbidden}
 use Rattle.words.specs.Spelling.{name_shape}
 
@@ -48,6 +50,17 @@ is_feed (Word word n) = false
 is_feed (LineEnd n) = true
 is_feed (TextEnd n) = false
 is_feed (Forbidden n) = false
+
+-- the lexeme of a bracket or line end at a place
+abbrev pub mark_at : Mark → ℕ → Lexeme
+mark_at mark.Opening n = Opening n
+mark_at mark.Closing n = Closing n
+mark_at mark.LineEnd n = LineEnd n
+
+abbrev pub is_mark : Mark → Lexeme → Bool
+is_mark mark.Opening = is_opening
+is_mark mark.Closing = is_closing
+is_mark mark.LineEnd = is_feed
 
 -- the lexeme is not the one that is due, and this is its refusal
 abbrev pub Unmet : (Lexeme → Bool) → Lexeme → Refusal → Type 0

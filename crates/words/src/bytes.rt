@@ -1,9 +1,8 @@
 // What each byte is to a text.
-ghost use Rattle.std.specs.Prelude.{◌≡◌, true, false, ◌≢◌};
-ghost use Rattle.words.specs.Bytes.{class, in_word};
-ghost use Rattle.words.specs.declared.bytes.ByteClass.TheVariants.{Space};
+ghost use Rattle.std.specs.Prelude.{◌≡◌};
+ghost use Rattle.words.specs.Bytes.{class, is_of};
 
-#[derive(Clone, Copy)]
+#[derive(Clone, Copy, Debug, PartialEq, Eq)]
 pub enum ByteClass {
     // a letter a to z or a digit
     InWord,
@@ -28,15 +27,8 @@ pub fn class_of(byte: u8) -> ByteClass
     }
 }
 
-pub fn is_space(byte: u8) -> bool
-    ensures yes { result ≡ true → class byte ≡ Space }
-    ensures not { result ≡ false → class byte ≢ Space }
+pub fn is_of(byte: u8, class: ByteClass) -> bool
+    ensures { result ≡ is_of class byte }
 {
-    matches!(class_of(byte), ByteClass::Space)
-}
-
-pub fn is_in_word(byte: u8) -> bool
-    ensures { result ≡ in_word byte }
-{
-    matches!(class_of(byte), ByteClass::InWord)
+    class_of(byte) == class
 }

@@ -1,18 +1,27 @@
 // Taking the token that is due, and refusing any other.
 ghost use Rattle.std.specs.Prelude.{◌≡◌, true, MatchResult};
-ghost use Rattle.words.specs.Expected.{unexpected, Unmet, is_name_word, is_opening, is_closing, is_feed};
-ghost use Rattle.words.specs.Lexemes.{Opening, Closing, Word, LineEnd, lexeme};
+ghost use Rattle.words.specs.Expected.{unexpected, Unmet, is_name_word, is_mark, mark_at};
+ghost use Rattle.words.specs.Lexemes.{Word, lexeme};
 ghost use Rattle.words.specs.Spelling.{name_shape};
 
 use crate::spelling::is_name;
 use crate::token::Token;
 use refusals::{FormRefusal, Refusal, TextRefusal};
 
+// A token of one byte with a meaning of its own.
+#[derive(Clone, Copy, Debug, PartialEq, Eq)]
+pub enum Mark {
+    Opening,
+    Closing,
+    LineEnd,
+}
+
 // A word of the shape of a name, and its place.
-#[derive(Clone, Copy)]
+#[derive(Clone, Copy, Debug, PartialEq, Eq)]
 pub struct PlacedWord<'a> {
     pub bytes: &'a [u8],
     pub place: usize,
+    ghost shaped: { name_shape bytes.now ≡ true },
 }
 
 // Why a token cannot stand where something else is due.
@@ -21,17 +30,14 @@ pub fn unexpected(token: Token<'_>) -> Refusal
 {
     match token {
         Token::Forbidden { place } => TextRefusal::ForbiddenByte { place }.into(),
-        Token::Word { bytes, place } => {
-            if is_name(bytes) {
-                FormRefusal::Misplaced { place }.into()
-            } else {
-                TextRefusal::MalformedWord { place }.into()
-            }
+        Token::Word { bytes, place } if !is_name(bytes) => {
+            TextRefusal::MalformedWord { place }.into()
         }
-        Token::Opening { place } => FormRefusal::Misplaced { place }.into(),
-        Token::Closing { place } => FormRefusal::Misplaced { place }.into(),
-        Token::LineEnd { place } => FormRefusal::Misplaced { place }.into(),
-        Token::TextEnd { place } => FormRefusal::Misplaced { place }.into(),
+        Token::Word { place, .. }
+        | Token::LineEnd { place }
+        | Token::TextEnd { place }
+        | Token::Opening { place }
+        | Token::Closing { place } => FormRefusal::Misplaced { place }.into(),
     }
 }
 
@@ -40,43 +46,19 @@ pub fn expect_word<'a>(token: Token<'a>) -> Result<PlacedWord<'a>, Refusal>
     ensures { MatchResult result (λ w. (lexeme token.entry ≡ Word w.bytes.now w.place) × (name_shape w.bytes.now ≡ true)) (Unmet is_name_word (lexeme token.entry)) }
 {
     match token {
-        Token::Word { bytes, place } => {
-            if is_name(bytes) {
-                Ok(PlacedWord { bytes, place })
-            } else {
-                Err(TextRefusal::MalformedWord { place }.into())
-            }
-        }
+        Token::Word { bytes, place } if is_name(bytes) => Ok(PlacedWord { bytes, place }),
         other => Err(unexpected(other)),
     }
 }
 
-// The place of the opening bracket that is due.
-pub fn expect_opening(token: Token<'_>) -> Result<usize, Refusal>
-    ensures { MatchResult result (λ n. lexeme token.entry ≡ Opening n) (Unmet is_opening (lexeme token.entry)) }
+// The place of the bracket or line end that is due.
+pub fn expect_mark(token: Token<'_>, due: Mark) -> Result<usize, Refusal>
+    ensures { MatchResult result (λ n. lexeme token.entry ≡ mark_at due n) (Unmet (is_mark due) (lexeme token.entry)) }
 {
-    match token {
-        Token::Opening { place } => Ok(place),
-        other => Err(unexpected(other)),
-    }
-}
-
-// The place of the closing bracket that is due.
-pub fn expect_closing(token: Token<'_>) -> Result<usize, Refusal>
-    ensures { MatchResult result (λ n. lexeme token.entry ≡ Closing n) (Unmet is_closing (lexeme token.entry)) }
-{
-    match token {
-        Token::Closing { place } => Ok(place),
-        other => Err(unexpected(other)),
-    }
-}
-
-// The place of the line feed that is due.
-pub fn expect_feed(token: Token<'_>) -> Result<usize, Refusal>
-    ensures { MatchResult result (λ n. lexeme token.entry ≡ LineEnd n) (Unmet is_feed (lexeme token.entry)) }
-{
-    match token {
-        Token::LineEnd { place } => Ok(place),
-        other => Err(unexpected(other)),
+    match (due, token) {
+        (Mark::Opening, Token::Opening { place })
+        | (Mark::Closing, Token::Closing { place })
+        | (Mark::LineEnd, Token::LineEnd { place }) => Ok(place),
+        (_, other) => Err(unexpected(other)),
     }
 }

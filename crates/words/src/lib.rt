@@ -8,9 +8,7 @@ pub mod spelling;
 mod taking;
 pub mod token;
 
-pub use expect::{
-    PlacedWord, expect_closing, expect_feed, expect_opening, expect_word, unexpected,
-};
+pub use expect::{Mark, PlacedWord, expect_mark, expect_word, unexpected};
 pub use lexer::Lexer;
-pub use spelling::{is_name, same_bytes};
+pub use spelling::is_name;
 pub use token::Token;

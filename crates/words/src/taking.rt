@@ -1,44 +1,34 @@
 // Takes the words of a text from the left.
 ghost use Rattle.std.specs.Prelude.{◌≡◌, ℕ, ◌+◌, ◌^◌, ◌<◌, ◌≤◌, min, true, false, [], ◌∷◌, length, drop, ◌≢◌, slice_index};
 ghost use Rattle.std.specs.List.{prefix_len};
-ghost use Rattle.words.specs.Bytes.{class, in_word};
+ghost use Rattle.words.specs.Bytes.{class, is_of};
 ghost use Rattle.words.specs.Left.{left, onward};
 ghost use Rattle.words.specs.Lexemes.{lexeme, lexemes_from, following, end_of, is_end};
 ghost use Rattle.words.specs.declared.bytes.ByteClass.TheVariants.{Space};
 
-use crate::bytes::{ByteClass, class_of, is_in_word, is_space};
+use crate::bytes::{ByteClass, class_of, is_of};
 use crate::lexer::Lexer;
 use crate::token::Token;
 
-// The first place from `from` on that has no space.
-fn past_spaces(text: &[u8], from: usize) -> usize
-    requires { from ≤ length text.now }
+// How many bytes at the front of the text are of that class.
+fn run_length(text: &[u8], class: ByteClass) -> usize
     ensures within { result ≤ length text.now }
-    ensures forward { from ≤ result }
-    ensures same { lexemes_from text.now from ≡ lexemes_from text.now result }
-    ensures stops { result < length text.now → class (slice_index text.now result) ≢ Space }
+    ensures value { result ≡ prefix_len (is_of class) text.now }
 {
-    let mut place = from;
-    while place < text.len() && is_space(text[place]) {
-        place += 1;
-    }
-    place
+    text.iter().take_while(|byte| is_of(**byte, class)).count()
 }
 
-// The place after the run of letters and digits that begins at `from`.
-fn word_end(text: &[u8], from: usize) -> usize
+// The place after the run of bytes of that class that begins at `from`.
+fn run_end(text: &[u8], from: usize, class: ByteClass) -> usize
     requires { from ≤ length text.now }
     ensures within { result ≤ length text.now }
-    ensures value { result ≡ from + prefix_len in_word (drop from text.now) }
+    ensures value { result ≡ from + prefix_len (is_of class) (drop from text.now) }
 {
-    let mut place = from;
-    while place < text.len() && is_in_word(text[place]) {
-        place += 1;
-    }
-    place
+    from + run_length(&text[from..], class)
 }
 
 // The token that begins right at `place`, and the place after it.
+#[tactic(auto, using(crate::proofs::Runs::byte_step, crate::proofs::Runs::word_at))]
 fn token_at<'a>(text: &'a [u8], place: usize) -> (Token<'a>, usize)
     requires within { place ≤ length text.now }
     requires begins { place < length text.now → class (slice_index text.now place) ≢ Space }
@@ -53,7 +43,7 @@ fn token_at<'a>(text: &'a [u8], place: usize) -> (Token<'a>, usize)
     }
     match class_of(text[place]) {
         ByteClass::InWord => {
-            let end = word_end(text, place);
+            let end = run_end(text, place, ByteClass::InWord);
             (
                 Token::Word {
                     bytes: &text[place..end],
@@ -66,7 +56,7 @@ fn token_at<'a>(text: &'a [u8], place: usize) -> (Token<'a>, usize)
         ByteClass::Closing => (Token::Closing { place }, place + 1),
         ByteClass::LineFeed => (Token::LineEnd { place }, place + 1),
         ByteClass::Forbidden => (Token::Forbidden { place }, place + 1),
-        ByteClass::Space => unreachable(),
+        ByteClass::Space => unreachable!(),
     }
 }
 
@@ -83,6 +73,7 @@ impl<'a> Lexer<'a> {
     }
 
     // The next word, bracket or line end; at the text's end that end, again and again.
+    #[tactic(auto, using(crate::proofs::Runs::spaces_skipped, crate::proofs::Runs::no_space, crate::proofs::Taken::took, crate::proofs::Taken::fewer_left))]
     pub fn next_token(&mut self) -> Token<'a>
         ensures taken { left self.old ≡ lexeme result ∷ onward (lexeme result) (left self.new) }
         ensures fewer { length (left self.new) ≤ length (left self.old) }
@@ -91,7 +82,8 @@ impl<'a> Lexer<'a> {
         ensures fits { end_of (lexeme result) < 2 ^ 64 }
     {
         let text = self.text;
-        let (token, end) = token_at(text, past_spaces(text, self.place));
+        let start = run_end(text, self.place, ByteClass::Space);
+        let (token, end) = token_at(text, start);
         self.place = end;
         token
     }

@@ -1,5 +1,5 @@
 // One word of a text. It borrows its bytes from the text and knows its place, which is where in the text it begins.
-#[derive(Clone, Copy)]
+#[derive(Clone, Copy, Debug, PartialEq, Eq)]
 pub enum Token<'a> {
     Opening { place: usize },
     Closing { place: usize },

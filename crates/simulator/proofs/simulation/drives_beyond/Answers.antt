@@ -1,4 +1,4 @@
-use Rattle.std.proofs.Common.{◌≡◌, ℕ, ◌^◌, ltb, leb, ap, ◌∙◌}
+use Rattle.std.proofs.Common.{◌≡◌, ℕ, ◌^◌, ltb, leb, ap, ◌∙◌, arith}
 use Rattle.std.proofs.lemmas.Bool.Decides.{Decides-at}
 use Rattle.circuit.specs.Circuits.{circuit_model}
 use Rattle.faults.specs.Cubes.{cube_model}
@@ -15,4 +15,4 @@ returns c =
     ∙ past_bits c.driven.result c.input_count.result c.checked_shr-past.result c.driven.type_inv c.checked_shr-past.ensures
     ∙ ap (leb (2 ^ c.input_count.result)) c.driven.ensures
     ∙ ap (λ (n : ℕ). leb (2 ^ n) c.args.cube.driven) c.input_count.ensures.value in
-    record { value = value; rule = Decides-at (ltb 0 c.unwrap_or.result) (drives_beyond model q) value (beyond_decides model q) }
+    record { value = value; rule = Decides-at (ltb 0 c.unwrap_or.result) (drives_beyond model q) value (beyond_decides model q (omega (arith, c.driven.ensures))) }

@@ -1,7 +1,7 @@
-use Rattle.std.proofs.Common.{◌≡◌, ℕ, ◌<◌, List, ◌++◌, All, map, length, take, drop, sym, ap, ◌∙◌, subst, arith}
+use Rattle.std.proofs.Common.{◌≡◌, ℕ, List, ◌++◌, map, length, take, drop, sym, ap, ◌∙◌, subst, arith}
 use Rattle.std.proofs.lemmas.Grind.{common_steps}
 use Rattle.circuit.specs.Circuits.{circuit_model}
-use Rattle.circuit.specs.Model.{Gate, line_count}
+use Rattle.circuit.specs.Model.{Gate}
 use Rattle.faults.specs.Cubes.{cube_model}
 use Rattle.values.specs.Pairs.{Pairs}
 use Rattle.simulator.specs.Detection.{input_value, simulated, verdict, judged}
@@ -14,11 +14,7 @@ use Rattle.simulator.proofs.Telling.{verdict_tells}
 use Rattle.simulator.proofs.simulation.simulate.Goals as goal
 
 pub judge-requires : goal.judge-requires
-judge-requires g c =
-    let model = circuit_model c.args.circuit.now in
-    let long : length c.settle.new.row ≡ line_count model = grind (arith, common_steps) in
-    subst (λ (n : ℕ). All (λ (o : ℕ). o < n) c.outputs.result.now) (sym long)
-    (subst (All (λ (o : ℕ). o < line_count model)) (sym c.outputs.ensures.value) (outputs_below model c.outputs.ensures.rules))
+judge-requires g c = λ k d h. grind (arith, common_steps, outputs_below (circuit_model c.args.circuit.now) c.outputs.ensures.rules k d)
 
 pub returns : goal.returns
 returns g c =

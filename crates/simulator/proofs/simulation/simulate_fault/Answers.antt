@@ -1,4 +1,4 @@
-use Rattle.std.proofs.Common.{Option, ap, ◌∙◌, subst, rules}
+use Rattle.std.proofs.Common.{Option, ap, ◌∙◌, subst}
 use Rattle.circuit.specs.Circuits.{circuit_model}
 use Rattle.faults.specs.declared.fault.Fault.{Fault}
 use Rattle.faults.specs.Cubes.{cube_model}
@@ -7,14 +7,9 @@ use Rattle.simulator.specs.Simulation.{Simulates}
 use Rattle.simulator.proofs.simulation.simulate_fault.Goals as goal
 
 -- the simulation read the socket that the fault was plugged into
-pub returns : goal.returns
-returns g c =
+pub returns-clause-simulates : goal.returns-clause-simulates
+returns-clause-simulates g c =
     let v = g.V.ValueKind in
     let answer = c.simulate-answer in
-    record {
-      simulates =
-          subst (λ (o : Option Fault). Simulates v.kind v.meaning (circuit_model c.args.circuit.now) o (cube_model c.args.cube) c.args.row.now answer.new.row answer.result)
-          (ap (λ (s : Socket). s.fault) c.socket.ensures ∙ c.plug-plug.ensures.holds)
-          answer.ensures;
-      empty = search rules;
-    }
+    subst (λ (o : Option Fault). Simulates v.kind v.meaning (circuit_model c.args.circuit.now) o (cube_model c.args.cube) c.args.row.now answer.new.row answer.result)
+    (ap (λ (s : Socket). s.fault) c.socket.ensures ∙ c.plug-plug.ensures.holds) answer.ensures

@@ -15,7 +15,7 @@ decreases-operands l = 3 * l.allowed + 1
 abbrev pub invariant-operands-operands : goal.invariant-operands-operands
 invariant-operands-operands l =
     ((name : List ℕ) (pending : List Pending) → length pending + l.allowed ≡ 6
-    → at (operand name (record { op = l.op; operands = [] }) pending) l.initial.self ≡ at (operand name (record { op = l.op; operands = vec_items l.lines }) pending) l.self)
+    → at (operand name (record { op = l.op; operands = [] }) pending) l.initial.self ≡ at (operand name (record { op = l.op; operands = vec_items l.operands }) pending) l.self)
     × (length (ahead l.self) ≤ length (ahead l.initial.self))
 
 abbrev pub decreases-operands-operands : goal.decreases-operands-operands

@@ -1,6 +1,0 @@
-use Rattle.std.proofs.Common.{arith}
-use Rattle.circuit.proofs.Sizes.{lines_count}
-use Rattle.reader.proofs.parser.Parser.line_count.Goals as goal
-
-pub returns : goal.returns
-returns c = omega (arith, lines_count c.args.self.now.tables)
