@@ -1,5 +1,6 @@
 // One text and its answer.
 use circuit::Circuit;
+use faults::StuckAt;
 use reader::read;
 use refusals::{Cause, Layer, Refusal};
 use std::alloc::{AllocError, Global};
@@ -48,6 +49,11 @@ pub fn with_gates(heap: Global, count: usize) -> Result<String, AllocError> {
         writeln!(text, "(gate g{k} (not a))")?;
     }
     Ok(text)
+}
+
+// The fault of that line and pin, stuck at that level.
+pub fn stuck_at(line: usize, pin: usize, level: usize) -> StuckAt {
+    StuckAt { line, pin, level }
 }
 
 // The layer that a refusal of that number is of.
