@@ -5,17 +5,10 @@ use Rattle.refusals.specs.declared.cause.Cause.{Cause}
 use Rattle.refusals.specs.Causes.{layer_text}
 use Rattle.faults.specs.Cubes.{Cube}
 use Rattle.circuit.specs.Model.{Circuit, names}
-use Rattle.folder.specs.Entries.{State, Open, Spent, Fewest, Redundant, Covered, Entry, state_cube, state_count}
+use Rattle.folder.specs.Entries.{State, Open, Spent, Fewest, Redundant, Covered, Entry, state_cube, state_count, state_word}
 use Rattle.jobs.specs.declared.job.Kind.{Kind}
 use Rattle.jobs.specs.Kinds.{kind_text}
 use Rattle.replies.specs.Texts.{cube_text}
-
-abbrev pub state_word : State → List ℕ
-state_word Open = codes "open"
-state_word (Spent cube tries) = codes "spent"
-state_word (Fewest cube tries) = codes "fewest"
-state_word (Redundant tries) = codes "redundant"
-state_word (Covered by) = codes "covered"
 
 -- the name of a line, or `none`
 abbrev pub name_text : Option (List ℕ) → List ℕ

@@ -1,5 +1,5 @@
 // A cube as it is written: for each input 0, 1 or x, or `none` where there is no cube.
-ghost use Rattle.std.specs.Prelude.{◌≡◌, ◌<◌, ◌≤◌, Some};
+ghost use Rattle.std.specs.Prelude.{◌≡◌, ◌≤◌, Some};
 ghost use Rattle.std.specs.Option.{option_map};
 ghost use Rattle.std.specs.Fmt.{WritesOnOk};
 ghost use Rattle.faults.specs.Cubes.{cube_model};
@@ -11,26 +11,26 @@ use std::fmt;
 #[derive(Clone, Copy)]
 pub struct CubeText {
     pub cube: Option<Cube>,
-    pub inputs: u32,
+    pub inputs: usize,
     ghost few: { inputs ≤ 64 },
 }
 
 // The letter of one input.
-fn letter(cube: Cube, input: u32) -> char
-    requires { input < 64 }
+fn letter(cube: Cube, input: usize) -> char
     ensures { result ≡ level_letter cube.driven cube.level input }
 {
-    if (cube.driven() >> input) % 2 == 0 {
-        'x'
-    } else if (cube.level() >> input) % 2 == 0 {
-        '0'
-    } else {
-        '1'
+    match cube.level_at(input) {
+        None => 'x',
+        Some(false) => '0',
+        Some(true) => '1',
     }
 }
 
-fn write_levels<W: fmt::Write>(cube: Cube, inputs: u32, f: &mut fmt::Formatter<W>) -> fmt::Result
-    requires { inputs ≤ 64 }
+fn write_levels<W: fmt::Write>(
+    cube: Cube,
+    inputs: usize,
+    f: &mut fmt::Formatter<W>,
+) -> fmt::Result
     ensures { WritesOnOk W.Write.write_str_gives f.old result (levels cube.driven cube.level 0 inputs) f.new }
 {
     for input in 0..inputs {

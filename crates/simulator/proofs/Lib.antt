@@ -1,6 +1,5 @@
 pub mod Driving
 pub mod Rules
-pub mod Simulating
 pub mod Relating
 pub mod Readings
 pub mod Telling
