@@ -50,6 +50,13 @@ impl Tables {
         (0..count).find(|line| has_name(self.line_name(*line), word))
     }
 
+    // The line of that name.
+    pub fn line_named(&self, word: &[u8]) -> Option<usize>
+        ensures { result ≡ line_named (names (tables_model self.now)) word.now }
+    {
+        self.named_below(self.line_count(), word)
+    }
+
     // Whether that line is among the outputs.
     pub fn lists(&self, line: usize) -> bool
         ensures { result ≡ list_any (nat_eq line) (tables_model self.now).outputs }
@@ -84,7 +91,7 @@ impl Circuit {
     pub fn line_named(&self, word: &[u8]) -> Option<usize>
         ensures { result ≡ line_named (names (circuit_model self.now)) word.now }
     {
-        self.tables.named_below(self.line_count(), word)
+        self.tables.line_named(word)
     }
 
     // The gate whose line has that number; an input has none.

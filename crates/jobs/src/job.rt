@@ -17,13 +17,9 @@ pub enum Kind {
 #[derive(Clone, Copy, Debug, PartialEq, Eq)]
 pub enum Job {
     // choose the value kind
-    Kind {
-        kind: Kind,
-    },
+    Kind { kind: Kind },
     // enter a stuck-at fault
-    Fault {
-        fault: StuckAt,
-    },
+    Fault { fault: StuckAt },
     // list the entries
     List,
 }

@@ -25,7 +25,7 @@ fn is_number(word: &[u8]) -> bool
     }
 }
 
-// The value of the digits.
+// The value of the digits. A fold leaves open that its closure may be called at each value so far; the loop's invariant says it.
 fn value_of(word: &[u8]) -> usize
     requires { number_shape word.now ≡ true }
     ensures { result ≡ number_value word.now }

@@ -5,13 +5,13 @@ use Rattle.std.proofs.lemmas.Bool.{and_parts, cond-false, lt-leb, le-ltb, ne_eqb
 use Rattle.words.specs.Lexemes.{Lexeme, Opening, Closing, Word, LineEnd, TextEnd, Forbidden}
 use Rattle.words.specs.Lists.{every}
 use Rattle.words.specs.Spelling.{name_shape}
-use Rattle.circuit.specs.Ops.{fewest_operands, most_operands}
+use Rattle.circuit.specs.Ops.{fewest_operands, most_operands, op_word}
 use Rattle.circuit.specs.Model.{Gate, Circuit, line_count, line_named}
 use Rattle.circuit.specs.Lawful.{each_after, unclaimed}
 use Rattle.reader.specs.Reading.{Pending, inputs_line, input_name, line_end, next_line, gate_name, operand, output_name, outputs_end}
 use Rattle.reader.specs.Reading.{Granted, Go, run, step, reading, empty, full, with_output, with_operand, made_gate, gate_made, operand_found, operator_found, output_found}
 use Rattle.reader.specs.Describes.{Mark, Operands, none, name_then, gate_then, GateLine, Source, Describes, OneCircuit}
-use Rattle.reader.specs.Describes.{names_then, operands_then, gate_line_then, gate_lines_then, op_word, words_of, rest_place}
+use Rattle.reader.specs.Describes.{names_then, operands_then, gate_line_then, gate_lines_then, words_of, rest_place}
 use Rattle.reader.specs.Describes.{known, number_of, made, with_gate_line, with_gate_lines, inputs_alone, all_lines, stands_for}
 use Rattle.reader.specs.Describes.{operand_count, unlisted, GateLineRules, GateLinesRules, Rules}
 use Rattle.reader.proofs.DescribesPlaces.{Placed, placed_from, none_left, Leads, ◌then◌, stays, on_opening, on_closing, on_feed, on_word}

@@ -1,20 +1,16 @@
 -- Steps of the definition, at the words that the reader has tested.
-use Rattle.std.proofs.Common.{◌≡◌, ℕ, zero, suc, ◌+◌, ◌<◌, ◌≤◌, Bool, true, false, cond, eqb, leb, List, [], ◌∷◌, ◌++◌, map, length, get_or, set, IfOk, Some, Ok, Err, vec_items, vec_len, Result, MatchResult, sym, refl, ap, ◌∙◌, arith}
-use Rattle.std.proofs.lemmas.List.{map_push, map-set, get_or-map, length-map}
-use Rattle.std.proofs.lemmas.Bool.{le-leb, lt-leb, le-ltb}
+use Rattle.std.proofs.Common.{◌≡◌, ℕ, zero, suc, ◌+◌, ◌<◌, false, leb, List, [], ◌∷◌, map, length, get_or, set, Some, Err, vec_items, vec_len, Result, MatchResult, sym, refl, ap, ◌∙◌, arith}
+use Rattle.std.proofs.lemmas.List.{map-set, get_or-map, length-map}
+use Rattle.std.proofs.lemmas.Bool.{lt-leb}
 use Rattle.refusals.specs.declared.cause.Refusal.{Refusal}
-use Rattle.refusals.specs.declared.cause.Refusal.TheVariants as refusal
-use Rattle.refusals.specs.declared.layers.CircuitRefusal.TheVariants.{LimitPassed}
 use Rattle.words.specs.Left.{onward}
-use Rattle.words.specs.Lexemes.{Lexeme, Opening, Closing, Word, LineEnd, TextEnd, Forbidden, lexemes}
-use Rattle.words.specs.Spelling.{name_shape}
+use Rattle.words.specs.Lexemes.{Lexeme, Opening, Closing, Word, LineEnd, TextEnd, Forbidden}
 use Rattle.circuit.specs.declared.name.Name.{Name}
 use Rattle.circuit.specs.declared.gate.Gate as code
 use Rattle.circuit.specs.declared.tables.Tables.{Tables}
-use Rattle.circuit.specs.Model.{Circuit, Gate, line_count}
+use Rattle.circuit.specs.Model.{Circuit, Gate}
 use Rattle.circuit.specs.Tables.{name_bytes, gate_model, tables_model}
-use Rattle.circuit.proofs.Sizes.{inputs_count}
-use Rattle.reader.specs.Reading.{Due, inputs_line, input_name, line_end, operator, operand, Pending, full, too_few, closing_step, gate_made, made_gate, misplaced, Step, Go, Stop, Outcome, Refused, run, empty, reading, taken, limit_passed, with_input, with_gate, last_named, step}
+use Rattle.reader.specs.Reading.{Due, operator, operand, Pending, full, Step, Go, Stop, Outcome, run, taken, last_named, step}
 use Rattle.reader.specs.declared.parser.Parser.{Parser}
 use Rattle.reader.specs.Parsing.{ahead, so_far, at, resumed, Refuses, Leads}
 
@@ -30,18 +26,16 @@ last_set name (h ∷ []) (suc i) g e o p m = absurd (omega arith)
 last_set name (h ∷ (k ∷ gs)) zero g e o p m = absurd (omega arith)
 last_set name (h ∷ (k ∷ gs)) (suc i) g e o p m = ap (λ (rest : List Gate). h ∷ rest) (last_set name (k ∷ gs) i g (omega arith) o p m)
 
-pub gate_renamed : (t : Tables) (gates : List code.Gate) (name : Name) (i : ℕ) (g h : code.Gate) → suc i ≡ vec_len t.gates → g ≡ get_or (vec_items t.gates) i g
-    → h ≡ record { name = Some name; op = g.op; operands = g.operands } → gates ≡ set (vec_items t.gates) i h
-    → last_named (name_bytes name) (map gate_model (vec_items t.gates)) ≡ map gate_model gates
-gate_renamed t gates name i g h e r m s =
+pub gate_renamed : (t : Tables) (name : Name) (i : ℕ) (g : code.Gate) → suc i ≡ vec_len t.gates → g ≡ get_or (vec_items t.gates) i g
+    → last_named (name_bytes name) (map gate_model (vec_items t.gates)) ≡ map gate_model (set (vec_items t.gates) i (record { name = Some name; op = g.op; operands = g.operands }))
+gate_renamed t name i g e r =
+    let h : code.Gate = record { name = Some name; op = g.op; operands = g.operands } in
     let inside : i < length (vec_items t.gates) = omega (arith, t.gates.ok.0) in
-    let was : get_or (map gate_model (vec_items t.gates)) i (gate_model h) ≡ gate_model g = get_or-map gate_model (vec_items t.gates) i g (gate_model h) inside ∙ ap gate_model (sym r) in
+    let was : gate_model g ≡ get_or (map gate_model (vec_items t.gates)) i (gate_model h) = ap gate_model r ∙ sym (get_or-map gate_model (vec_items t.gates) i g (gate_model h) inside) in
     last_set (name_bytes name) (map gate_model (vec_items t.gates)) i (gate_model h)
     (e ∙ sym (length-map (vec_items t.gates) gate_model ∙ sym t.gates.ok.0))
-    (ap (λ (k : code.Gate). (gate_model k).op) m ∙ sym (ap (λ (k : Gate). k.op) was))
-    (ap (λ (k : code.Gate). (gate_model k).operands) m ∙ sym (ap (λ (k : Gate). k.operands) was))
-    (ap (λ (k : code.Gate). (gate_model k).name) m)
-    ∙ sym (ap (map gate_model) s ∙ map-set gate_model (vec_items t.gates) i h)
+    (ap (λ (k : Gate). k.op) was) (ap (λ (k : Gate). k.operands) was) refl
+    ∙ sym (map-set gate_model (vec_items t.gates) i h)
 
 run_step : (due : Due) (c : Circuit) (t : Lexeme) (ts : List Lexeme) → run due c (t ∷ ts) ≡ resumed (step due c t) ts
 run_step due c t ts = go (step due c t)

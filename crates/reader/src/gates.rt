@@ -130,7 +130,7 @@ impl Parser<'_> {
         if is_full {
             return Err(FormRefusal::WrongOperandCount { place }.into());
         }
-        match self.line_named(bytes) {
+        match self.tables.line_named(bytes) {
             Some(line) => Ok(line),
             None => Err(CircuitRefusal::UnknownName { place }.into()),
         }

@@ -6,7 +6,6 @@ ghost use Rattle.refusals.specs.declared.layers.CircuitRefusal.TheVariants.{Ends
 ghost use Rattle.words.specs.Expected.{is_closing, is_name_word};
 ghost use Rattle.words.specs.Lexemes.{Word, TextEnd, lexeme, is_end};
 ghost use Rattle.words.specs.Spelling.{name_shape};
-ghost use Rattle.circuit.specs.Model.{names, line_named};
 ghost use Rattle.circuit.specs.Tables.{name_bytes};
 ghost use Rattle.reader.specs.Reading.{Granted, inputs_line, inputs_head, input_name, line_end, next_line, next_head, gate_name, gate_begin, operator, gate_line_close, output_name, outputs_end, is_head, taken, step};
 ghost use Rattle.reader.specs.Parsing.{ahead, so_far, at, resumed, Leads, Advances, is_new_name, not_new, after_head};
@@ -17,9 +16,11 @@ use circuit::{MOST_INPUTS, MOST_OUTPUTS, Name};
 use refusals::{CircuitRefusal, FormRefusal, Refusal};
 use words::{Mark, PlacedWord, Token, expect_mark, expect_word};
 
-// The words that lines begin with.
+// The words that lines begin with. They are compared by `==`: a match on literals as long as these gets no proof.
 const INPUTS: &[u8] = b"inputs";
+
 const GATE: &[u8] = b"gate";
+
 const OUTPUTS: &[u8] = b"outputs";
 
 // A token of a circuit of which more must come: the text may not end here.
@@ -76,19 +77,12 @@ impl Parser<'_> {
         }
     }
 
-    // The line of that name, if one was read.
-    pub fn line_named(&self, word: &[u8]) -> Option<usize>
-        ensures { result ≡ line_named (names (so_far self.now)) word.now }
-    {
-        self.tables.named_below(self.tables.line_count(), word)
-    }
-
     // The word that is due and names no line yet.
     fn expect_new_name<'a>(&self, token: Token<'a>) -> Result<PlacedWord<'a>, Refusal>
         ensures { MatchResult result (λ w. (lexeme token.entry ≡ Word w.bytes.now w.place) × (name_shape w.bytes.now ≡ true) × (taken (so_far self.now) w.bytes.now ≡ false)) (λ e. (is_new_name (so_far self.now) (lexeme token.entry) ≡ false) × (e ≡ not_new (lexeme token.entry))) }
     {
         let word = expect_word(token)?;
-        match self.line_named(word.bytes) {
+        match self.tables.line_named(word.bytes) {
             None => Ok(word),
             Some(_) => Err(CircuitRefusal::NameTaken { place: word.place }.into()),
         }
@@ -110,7 +104,8 @@ impl Parser<'_> {
         Ok(())
     }
 
-    // The names of an inputs line, to its closing bracket.
+    // The names of an inputs line, to its closing bracket. The loop of the outputs line is as this one; a loop for both would
+    // take the step as a closure over the parser, with a contract of its own.
     pub fn input_names(&mut self) -> Result<(), Refusal>
         ensures { Leads (at input_name self.old) result (λ _. at line_end self.new) }
     {
@@ -173,7 +168,7 @@ impl Parser<'_> {
         ensures word { OnOk result (is_name_word (lexeme token.entry) ≡ true) }
     {
         let PlacedWord { bytes, place } = expect_word(token)?;
-        let Some(line) = self.line_named(bytes) else {
+        let Some(line) = self.tables.line_named(bytes) else {
             return Err(CircuitRefusal::UnknownName { place }.into());
         };
         if self.tables.lists(line) {
@@ -201,7 +196,8 @@ impl Parser<'_> {
         }
     }
 
-    // The end of the outputs line, and of the circuit: the place where the rest of the text begins.
+    // The end of the outputs line, and of the circuit: the place where the rest of the text begins. A job line ends alike, but
+    // a function for both would have to require that the place after the token fits, which `next` says of it.
     pub fn outputs_end(&mut self) -> Result<usize, Refusal>
         ensures { Leads (at outputs_end self.old) result (λ place. Granted (so_far self.new) place) }
     {

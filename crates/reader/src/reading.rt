@@ -35,6 +35,7 @@ fn read_tables(heap: Global, text: &[u8]) -> Result<(Tables, usize), Refusal>
     Ok((parser.tables, place))
 }
 
+// Reads as the definition does. What `read` promises besides follows from that.
 fn read_text<'a>(heap: Global, text: &'a [u8], circuit: &mut Circuit) -> Result<Rest<'a>, Refusal>
     ensures { Reads text.now result (circuit_model circuit.new) }
 {
