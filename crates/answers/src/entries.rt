@@ -1,5 +1,5 @@
 // Both sides of the limit on entries, and what wins where two refusals fit.
-use crate::expect::{circuit_of, with_gates};
+use crate::expect::{circuit_of, stuck_at, with_gates};
 use circuit::Circuit;
 use folder::Folder;
 use refusals::Refusal;
@@ -24,15 +24,15 @@ fn five_hundred_and_twelve_entries(rt: HostRuntime) -> Result<(), Fail> {
     let heap = rt.alloc();
     let mut folder = Folder::new(heap, wide_circuit(heap)?);
     for line in 0..256 {
-        assert_eq!(rt; folder.enter(line, 0, 0)?, 2 * line);
-        assert_eq!(rt; folder.enter(line, 0, 1)?, 2 * line + 1);
+        assert_eq!(rt; folder.enter(stuck_at(line, 0, 0))?, 2 * line);
+        assert_eq!(rt; folder.enter(stuck_at(line, 0, 1))?, 2 * line + 1);
     }
     assert_eq!(rt; folder.entries().len(), 512);
-    expect_number(&rt, folder.enter(256, 0, 0), 15);
-    expect_number(&rt, folder.enter(0, 0, 0), 14);
-    expect_number(&rt, folder.enter(257, 0, 0), 11);
-    expect_number(&rt, folder.enter(256, 2, 0), 12);
-    expect_number(&rt, folder.enter(256, 1, 2), 13);
+    expect_number(&rt, folder.enter(stuck_at(256, 0, 0)), 15);
+    expect_number(&rt, folder.enter(stuck_at(0, 0, 0)), 14);
+    expect_number(&rt, folder.enter(stuck_at(257, 0, 0)), 11);
+    expect_number(&rt, folder.enter(stuck_at(256, 2, 0)), 12);
+    expect_number(&rt, folder.enter(stuck_at(256, 1, 2)), 13);
     assert_eq!(rt; folder.entries().len(), 512);
     Ok(())
 }

@@ -1,5 +1,6 @@
 // One text and its answer.
 use circuit::Circuit;
+use faults::StuckAt;
 use reader::read;
 use refusals::{Cause, Layer, Refusal};
 use std::alloc::{AllocError, Global};
@@ -8,7 +9,7 @@ use std::process::Abort;
 use std::test::Fail;
 use std::{fmt, str};
 
-// A text that is refused, the number and the place. (The fields have no names, so that each case is one row of its table.)
+// A text that is refused, the number and the place. (Fields with names would make six lines of each row of the tables.)
 #[derive(Clone, Copy)]
 pub struct Refused(pub &'static str, pub u8, pub usize);
 
@@ -45,9 +46,14 @@ fn other_circuit(heap: Global) -> Result<Circuit, Refusal> {
 pub fn with_gates(heap: Global, count: usize) -> Result<String, AllocError> {
     let mut text = String::from_str(heap, "(inputs a)\n")?;
     for k in 0..count {
-        write!(text, "(gate g{k} (not a))\n")?;
+        writeln!(text, "(gate g{k} (not a))")?;
     }
     Ok(text)
+}
+
+// The fault of that line and pin, stuck at that level.
+pub fn stuck_at(line: usize, pin: usize, level: usize) -> StuckAt {
+    StuckAt { line, pin, level }
 }
 
 // The layer that a refusal of that number is of.

@@ -1,6 +1,6 @@
 // Texts that are granted, with the circuit of each, line by line.
 use crate::expect::{Size, expect_granted};
-use circuit::{Circuit, Op};
+use circuit::Circuit;
 use reader::read;
 use std::alloc::Global;
 use std::fmt::Write;
@@ -308,19 +308,6 @@ const CIRCUITS: [Granted; 26] = [
     },
 ];
 
-fn op_name(op: Op) -> &'static str {
-    match op {
-        Op::And => "and",
-        Op::Nand => "nand",
-        Op::Or => "or",
-        Op::Nor => "nor",
-        Op::Xor => "xor",
-        Op::Xnor => "xnor",
-        Op::Not => "not",
-        Op::Buf => "buf",
-    }
-}
-
 fn drawing(heap: Global, circuit: &Circuit) -> Result<String, Fail> {
     let mut text = String::new(heap);
     for line in 0..circuit.line_count() {
@@ -330,8 +317,7 @@ fn drawing(heap: Global, circuit: &Circuit) -> Result<String, Fail> {
             None => write!(text, "{separator}-")?,
         }
         if let Some(gate) = circuit.gate(line) {
-            let op = op_name(gate.op);
-            write!(text, "={op}")?;
+            write!(text, "={}", gate.op)?;
             for operand in &gate.operands {
                 write!(text, " {operand}")?;
             }

@@ -7,7 +7,7 @@ use std::ops::Range;
 use std::process::Abort;
 use std::test::Fail;
 
-// An operator, and how many operands it takes at least and at most.
+// An operator, and how many operands it takes at least and at most. (A row of a table, as `Refused`.)
 #[derive(Clone, Copy)]
 struct Takes(&'static str, usize, usize);
 
@@ -197,7 +197,8 @@ fn five_hundred_and_twelve_lines(rt: HostRuntime) -> Result<(), Fail> {
     expect_ending_granted(&rt, heap, front.as_str(), "(outputs g510)\n", size, 10136)
 }
 
-// A front, one character, the length to which the front is filled up with it, the number and the place.
+// A front, one character, the length to which the front is filled up with it, the number and the place. (A row of a table,
+// as `Refused`.)
 #[derive(Clone, Copy)]
 struct Filled(&'static str, &'static str, usize, u8, usize);
 
@@ -258,11 +259,11 @@ fn push_lines(text: &mut String, lines: Range<usize>) -> Result<(), Fail> {
 fn largest(heap: Global) -> Result<String, Fail> {
     let mut text = String::from_str(heap, "(inputs")?;
     push_lines(&mut text, 0..64)?;
-    write!(text, ")\n")?;
+    writeln!(text, ")")?;
     for line in 64..512usize {
         write!(text, "(gate n{line:07} (xor")?;
         push_lines(&mut text, line - 8..line)?;
-        write!(text, "))\n")?;
+        writeln!(text, "))")?;
     }
     write!(text, "(outputs")?;
     push_lines(&mut text, 448..512)?;

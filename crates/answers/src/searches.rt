@@ -1,5 +1,5 @@
 // Searches whose answers were worked out beforehand, and covers, by the calls of the library.
-use crate::expect::circuit_of;
+use crate::expect::{circuit_of, stuck_at};
 use folder::{Folder, State};
 use simulator::Socket;
 use std::alloc::Global;
@@ -21,10 +21,10 @@ const WIRE: &str = "(inputs a)\n(outputs a)\n";
 // How a search ended: the cube's driven word and level word, and the tries.
 #[derive(Clone, Copy, Debug, PartialEq, Eq)]
 enum Ended {
-    Fewest(u64, u64, u32),
-    Redundant(u32),
-    Spent(u64, u64, u32),
-    SpentWithNone(u32),
+    Fewest(u64, u64, usize),
+    Redundant(usize),
+    Spent(u64, u64, usize),
+    SpentWithNone(usize),
 }
 
 // How the search ended that left an entry in this state.
@@ -40,7 +40,8 @@ fn end_of(state: State) -> Option<Ended> {
     }
 }
 
-// A circuit, a fault by line, pin and level, a budget, and how the search ends.
+// A circuit, a fault by line, pin and level, a budget, and how the search ends. (A row of a table: fields with names would
+// make ten lines of it.)
 #[derive(Clone, Copy)]
 struct Search(&'static str, [usize; 3], usize, Ended);
 
@@ -86,7 +87,7 @@ fn expect_searches<V: ValueKind>(
     for search in searches {
         let Search(text, [line, pin, level], budget, end) = *search;
         let mut folder = folder_of(heap, text)?;
-        let number = folder.enter(line, pin, level)?;
+        let number = folder.enter(stuck_at(line, pin, level))?;
         let _ = folder.search(number, budget, &mut socket, row)?;
         let entry = folder.entry(number).ok_or("no entry")?;
         assert_eq!(rt; end_of(entry.state()), Some(end));
@@ -109,9 +110,9 @@ fn covered_entries(rt: HostRuntime) -> Result<(), Fail> {
     let mut folder = folder_of(heap, "(inputs a b)\n(gate y (and a b))\n(outputs y)\n")?;
     let mut socket = Socket::new();
     let mut row = [Nine::unknown(); 3];
-    let first = folder.enter(0, 0, 0)?;
-    let output = folder.enter(2, 0, 0)?;
-    let other = folder.enter(0, 0, 1)?;
+    let first = folder.enter(stuck_at(0, 0, 0))?;
+    let output = folder.enter(stuck_at(2, 0, 0))?;
+    let other = folder.enter(stuck_at(0, 0, 1))?;
     let _ = folder.search(first, 1000, &mut socket, &mut row)?;
     let marked = folder.cover(first, &mut socket, &mut row)?;
     assert_eq!(rt; marked, 1);

@@ -4,10 +4,11 @@
 
 use anyhow::Context;
 use circuit::Circuit;
-use faults::{Cube, Fault};
+use faults::{Cube, Fault, StuckAt};
 use reader::read;
 use refusals::FolderRefusal;
 use simulator::{Socket, Verdict, simulate_fault};
+use std::io;
 use values::five::Five;
 use values::kind::ValueKind;
 use values::nine::Nine;
@@ -129,7 +130,7 @@ fn print_line(rt: &impl Print, circuit: &Circuit, line: usize) -> anyhow::Result
     let operands = circuit.gate(line).map_or(0, |gate| gate.operands.len());
     for pin in 0..=operands {
         for level in 0..2 {
-            let fault = Fault::new(circuit, line, pin, level)
+            let fault = Fault::new(circuit, StuckAt { line, pin, level })
                 .ok()
                 .context("no such fault")?;
             match circuit.line_name(line) {
@@ -142,12 +143,17 @@ fn print_line(rt: &impl Print, circuit: &Circuit, line: usize) -> anyhow::Result
     Ok(())
 }
 
-fn word(verdict: Result<Verdict, FolderRefusal>) -> &'static str {
-    match verdict {
-        Ok(Verdict::Shows) => "shows",
-        Ok(Verdict::Still) => "still",
-        Ok(Verdict::Unsure) => "unsure",
-        Err(_) => "refused",
+// The verdict of a kind on a fault under a cube, behind a space.
+fn print_verdict<V: ValueKind>(
+    rt: &impl Print,
+    circuit: &Circuit,
+    fault: Fault,
+    cube: Cube,
+    row: &mut [V],
+) -> io::Result<()> {
+    match verdict(circuit, fault, cube, row) {
+        Ok(verdict) => print!(rt; " {verdict}"),
+        Err(_) => print!(rt; " refused"),
     }
 }
 
@@ -159,15 +165,16 @@ fn print_cubes(rt: &impl Print, circuit: &Circuit, named: NamedFault) -> anyhow:
         level,
     } = named;
     let line = circuit.line_named(name.as_bytes()).context("no such line")?;
-    let fault = Fault::new(circuit, line, pin, level)
+    let fault = Fault::new(circuit, StuckAt { line, pin, level })
         .ok()
         .context("no such fault")?;
     for letters in &CUBES {
         let cube = cube_of(letters);
-        let five = word(verdict(circuit, fault, cube, &mut [Five::unknown(); LINES]));
-        let seven = word(verdict(circuit, fault, cube, &mut [Seven::unknown(); LINES]));
-        let nine = word(verdict(circuit, fault, cube, &mut [Nine::unknown(); LINES]));
-        println!(rt; "{name} {pin} {level} {letters} {five} {seven} {nine}")?;
+        print!(rt; "{name} {pin} {level} {letters}")?;
+        print_verdict(rt, circuit, fault, cube, &mut [Five::unknown(); LINES])?;
+        print_verdict(rt, circuit, fault, cube, &mut [Seven::unknown(); LINES])?;
+        print_verdict(rt, circuit, fault, cube, &mut [Nine::unknown(); LINES])?;
+        println!(rt; "")?;
     }
     Ok(())
 }

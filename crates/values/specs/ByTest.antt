@@ -1,33 +1,36 @@
 -- The laws of a kind over listed sets, and that its answers are the smallest, from one test that antt computes:
 -- it goes through each listed set, or each two of them. Assumes nothing.
 use Rattle.std.specs.Prelude.{◌≡◌, Bool, true, false, ◌&&◌, List}
+use Rattle.std.specs.List.{list_all}
+use Rattle.std.proofs.lemmas.Bool.{and_from, and_parts}
 use Rattle.values.specs.Pairs.{Pair, Pairs, only, Single}
 use Rattle.values.specs.Values.{Gates, pairs}
 use Rattle.values.specs.Kind.{Kind, Lawful, LawfulGates, LawfulStick}
 use Rattle.values.specs.Made.{made_by_one, made_by_two, Among, Smallest, SmallestGates, SmallestAnswers, implies, holds_all}
-use Rattle.values.specs.Tests.{every, every_at, same_set, same_set_is, among, among_is, single, single_is, single_test, inhabited, inhabited_is, holds_member, holds_test, and_left, and_right, both_hold, implied}
+use Rattle.values.specs.Tests.{every_at, same_set, same_set_is, among, among_is, single, single_is, single_test, inhabited, inhabited_is, holds_member, holds_test, implied}
 use Rattle.values.specs.Members.{made_one_has, made_two_has}
 
 -- answers that are the smallest
 
 abbrev pub smallest_test : List Pairs → Pairs → Pairs → Bool
-smallest_test sets s r = among sets r && (holds_all r s && every (λ t. implies (holds_all t s) (holds_all t r)) sets)
+smallest_test sets s r = among sets r && (holds_all r s && list_all (λ t. implies (holds_all t s) (holds_all t r)) sets)
 
 smallest_is : (sets : List Pairs) (s r : Pairs) → smallest_test sets s r ≡ true → Smallest sets s r
 smallest_is sets s r h =
     let least_test : Pairs → Bool = λ t. implies (holds_all t s) (holds_all t r) in
-    let rest = and_right (among sets r) (holds_all r s && every least_test sets) h in
+    let (listed, rest) = and_parts (among sets r) _ h in
+    let (holds, least) = and_parts (holds_all r s) _ rest in
     record {
-      listed = among_is sets r (and_left (among sets r) _ h);
-      holds = holds_member r s (and_left (holds_all r s) (every least_test sets) rest);
-      least = λ t m k. holds_member t r (implied (holds_all t s) _ (every_at least_test sets (and_right (holds_all r s) _ rest) t m) (holds_test t s k));
+      listed = among_is sets r listed;
+      holds = holds_member r s holds;
+      least = λ t m k. holds_member t r (implied (holds_all t s) _ (every_at least_test sets least t m) (holds_test t s k));
     }
 
 abbrev one_test : List Pairs → (Pair → Pair) → (Pairs → Pairs) → Bool
-one_test sets f F = every (λ s. smallest_test sets (made_by_one f s) (F s)) sets
+one_test sets f F = list_all (λ s. smallest_test sets (made_by_one f s) (F s)) sets
 
 abbrev two_test : List Pairs → (Pair → Pair → Pair) → (Pairs → Pairs → Pairs) → Bool
-two_test sets f F = every (λ s. every (λ t. smallest_test sets (made_by_two f s t) (F s t)) sets) sets
+two_test sets f F = list_all (λ s. list_all (λ t. smallest_test sets (made_by_two f s t) (F s t)) sets) sets
 
 one_is : (sets : List Pairs) (f : Pair → Pair) (F : Pairs → Pairs) → one_test sets f F ≡ true
     → (s : Pairs) → Among sets s → Smallest sets (made_by_one f s) (F s)
@@ -38,15 +41,15 @@ two_is : (sets : List Pairs) (f : Pair → Pair → Pair) (F : Pairs → Pairs �
 two_is sets f F h s t m n =
     smallest_is sets _ _
     (every_at (λ t. smallest_test sets (made_by_two f s t) (F s t)) sets
-    (every_at (λ s. every (λ t. smallest_test sets (made_by_two f s t) (F s t)) sets) sets h s m) t n)
+    (every_at (λ s. list_all (λ t. smallest_test sets (made_by_two f s t) (F s t)) sets) sets h s m) t n)
 
 -- answers of one pair
 
 abbrev single_one_test : List Pairs → (Pairs → Pairs) → Bool
-single_one_test sets F = every (λ s. implies (single s) (single (F s))) sets
+single_one_test sets F = list_all (λ s. implies (single s) (single (F s))) sets
 
 abbrev single_two_test : List Pairs → (Pairs → Pairs → Pairs) → Bool
-single_two_test sets F = every (λ s. every (λ t. implies (single s && single t) (single (F s t))) sets) sets
+single_two_test sets F = list_all (λ s. list_all (λ t. implies (single s && single t) (single (F s t))) sets) sets
 
 single_one_is : (sets : List Pairs) (F : Pairs → Pairs) → single_one_test sets F ≡ true
     → (s : Pairs) → Among sets s → Single s → Single (F s)
@@ -56,10 +59,10 @@ single_one_is sets F h s m k =
 single_two_is : (sets : List Pairs) (F : Pairs → Pairs → Pairs) → single_two_test sets F ≡ true
     → (s t : Pairs) → Among sets s → Among sets t → Single s → Single t → Single (F s t)
 single_two_is sets F h s t m n k l =
-    let row = every_at (λ s. every (λ t. implies (single s && single t) (single (F s t))) sets) sets h s m in
+    let row = every_at (λ s. list_all (λ t. implies (single s && single t) (single (F s t))) sets) sets h s m in
     single_is (F s t)
     (implied (single s && single t) _ (every_at (λ t. implies (single s && single t) (single (F s t))) sets row t n)
-    (both_hold (single s) (single t) (single_test s k) (single_test t l)))
+    (and_from (single s) (single t) (single_test s k) (single_test t l)))
 
 -- the tests of a kind
 
@@ -68,9 +71,10 @@ four a b c d = (a && b) && (c && d)
 
 four_are : (a b c d : Bool) → four a b c d ≡ true → (a ≡ true) × (b ≡ true) × (c ≡ true) × (d ≡ true)
 four_are a b c d h =
-    let front = and_left (a && b) (c && d) h in
-    let back = and_right (a && b) (c && d) h in
-    (and_left a b front, and_right a b front, and_left c d back, and_right c d back)
+    let (front, back) = and_parts (a && b) (c && d) h in
+    let (at_a, at_b) = and_parts a b front in
+    let (at_c, at_d) = and_parts c d back in
+    (at_a, at_b, at_c, at_d)
 
 -- each answer of the gates is the smallest listed set that holds what the operands can make
 abbrev pub answers_test : List Pairs → Gates Pairs → Bool
@@ -91,7 +95,7 @@ known_test sets G =
 
 -- an open input admits equal levels and is listed, and no listed set is empty
 abbrev pub unknown_test : List Pairs → Pairs → Bool
-unknown_test sets unknown = four unknown.has00 unknown.has11 (among sets unknown) (every inhabited sets)
+unknown_test sets unknown = four unknown.has00 unknown.has11 (among sets unknown) (list_all inhabited sets)
 
 abbrev pub gates_test : List Pairs → Gates Pairs → Pairs → Bool
 gates_test sets G unknown = four (answers_test sets G) (singles_test sets G) (known_test sets G) (unknown_test sets unknown)
@@ -176,10 +180,10 @@ module _ (sets : List Pairs) (stick : Bool → Pairs → Pairs) where
 
 module _ (sets : List Pairs) (K : Kind) where
   gates_pass : kind_test sets K ≡ true → gates_test sets K.values.gates K.unknown ≡ true
-  gates_pass = and_left _ (stick_test sets K.values.stick)
+  gates_pass h = (and_parts _ (stick_test sets K.values.stick) h).0
 
   stick_passes : kind_test sets K ≡ true → stick_test sets K.values.stick ≡ true
-  stick_passes = and_right (gates_test sets K.values.gates K.unknown) _
+  stick_passes h = (and_parts (gates_test sets K.values.gates K.unknown) _ h).1
 
   pub smallest_by_test : kind_test sets K ≡ true → SmallestAnswers sets K
   smallest_by_test h = record {

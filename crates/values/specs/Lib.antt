@@ -7,9 +7,7 @@ pub mod Halves
 pub mod Nine
 pub mod Seven
 pub mod KnownValues
-pub mod FiveLaws
 pub mod ByTest
 pub mod Tests
 pub mod Members
-pub mod NineLaws
-pub mod SevenLaws
+pub mod KindLaws

@@ -1,11 +1,10 @@
 -- The members of the set that operands can make. Assumes nothing.
 use Rattle.std.specs.Prelude.{◌≡◌, refl, Bool, true, false, ◌||◌, cond, ◌⊎◌}
 use Rattle.std.proofs.Common.{sym, subst, inl, inr}
-use Rattle.std.proofs.lemmas.Bool.{false≢true}
+use Rattle.std.proofs.lemmas.Bool.{false≢true, or_cases}
 use Rattle.std.proofs.Math.Bool.{or-true}
 use Rattle.values.specs.Pairs.{Pair, Pairs, pair, has, ◌∈◌, only, no_pair}
 use Rattle.values.specs.Made.{◌∪◌, union_over, made_by_one, made_by_two, MadeExactly}
-use Rattle.values.specs.Tests.{or_way}
 
 -- what operands make is among what they can make
 
@@ -46,7 +45,7 @@ made_two_has f s t p q h k = union_has s (λ x. made_by_one (f x) t) p.good p.fa
 -- and nothing else is
 
 from_union : (s t : Pairs) (p : Pair) → p ∈ s ∪ t → (p ∈ s) ⊎ (p ∈ t)
-from_union s t p h = or_way (has s p.good p.faulty) (has t p.good p.faulty) (rw (has_union s t p.good p.faulty) at h)
+from_union s t p h = or_cases (has s p.good p.faulty) (has t p.good p.faulty) (rw (has_union s t p.good p.faulty) at h)
 
 has_none : (g f : Bool) → has no_pair g f ≡ true → ⊥
 has_none false false h = false≢true h

@@ -1,4 +1,4 @@
-use Rattle.values.specs.FiveLaws.{five_smallest}
+use Rattle.values.specs.KindLaws.{five_smallest}
 use Rattle.values.proofs.five_is_smallest.Goals as goal
 
 pub returns : goal.returns

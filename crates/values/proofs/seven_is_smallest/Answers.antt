@@ -1,4 +1,4 @@
-use Rattle.values.specs.SevenLaws.{seven_smallest}
+use Rattle.values.specs.KindLaws.{seven_smallest}
 use Rattle.values.proofs.seven_is_smallest.Goals as goal
 
 pub returns : goal.returns
