@@ -1,13 +1,13 @@
 // The program `folders`: a circuit text and job lines from standard input, a reply to each on standard output.
 #![tactic(auto)]
 
-use anyhow::anyhow;
+use anyhow::Context;
 use circuit::Circuit;
 use folder::Folder;
 use reader::read;
 use refusals::Refusal;
 use replies::Reply;
-use session::Session;
+use session::{Answer, Session};
 use std::io::Read;
 
 // Writes the replies to the job lines of the text from a place on. A line takes at least one byte, so there are at most as
@@ -19,16 +19,13 @@ fn answer_jobs(
     start: usize,
 ) -> anyhow::Result<()> {
     let mut place = start;
-    for _ in 0..text.len() {
-        match session.answer(rt.alloc(), text, place) {
-            Ok(Some(answer)) => {
-                place = answer.next;
-                let reply = answer.reply;
-                print!(rt; "{reply}")?;
-            }
-            Ok(None) => return Ok(()),
-            Err(_) => return Err(anyhow!("out of memory")),
-        }
+    for _ in text {
+        let answer = session.answer(rt.alloc(), text, place).ok();
+        let Some(Answer { reply, next }) = answer.context("out of memory")? else {
+            return Ok(());
+        };
+        print!(rt; "{reply}")?;
+        place = next;
     }
     Ok(())
 }
@@ -44,9 +41,7 @@ fn run(rt: &HostRuntime) -> anyhow::Result<()> {
             answer_jobs(rt, &mut session, &text, rest.place)
         }
         Err(refusal) => {
-            let Some(cause) = refusal.cause() else {
-                return Err(anyhow!("out of memory"));
-            };
+            let cause = refusal.cause().context("out of memory")?;
             let reply = Reply::Refused { cause };
             print!(rt; "{reply}")?;
             Ok(())
