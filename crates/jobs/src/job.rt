@@ -14,6 +14,7 @@ pub enum Kind {
     Nine,
 }
 
+// What a job line asks for.
 #[derive(Clone, Copy, Debug, PartialEq, Eq)]
 pub enum Job {
     // choose the value kind
@@ -47,6 +48,7 @@ pub struct UnknownKind;
 #[derive(Clone, Copy, Debug, PartialEq, Eq)]
 pub struct UnknownHead;
 
+// The kind of that name.
 impl TryFrom<&[u8]> for Kind {
     type Error = UnknownKind;
 
@@ -62,6 +64,7 @@ impl TryFrom<&[u8]> for Kind {
     }
 }
 
+// The job that a line with that word asks for.
 impl TryFrom<&[u8]> for Head {
     type Error = UnknownHead;
 

@@ -8,14 +8,17 @@ ghost use Rattle.jobs.specs.Numbers.{number_shape, number_value, is_number, not_
 use refusals::{Refusal, TextRefusal};
 use words::{Token, unexpected};
 
+// The most digits of a number.
 const MOST_DIGITS: usize = 7;
 
+// Whether each byte is a digit.
 fn all_digits(word: &[u8]) -> bool
     ensures { result ≡ every digit word.now }
 {
     word.iter().all(u8::is_ascii_digit)
 }
 
+// Whether a word is a number as it must be written.
 fn is_number(word: &[u8]) -> bool
     ensures { result ≡ number_shape word.now }
 {

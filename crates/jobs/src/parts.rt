@@ -33,6 +33,7 @@ impl Head {
 }
 
 impl JobReader<'_> {
+    // The word that is due: a kind of job, in its turn.
     fn head(&mut self) -> Result<Head, Refusal>
         ensures { Leads (at job_head self.old) result (λ h. at (after_head h) self.new) }
     {
@@ -44,6 +45,7 @@ impl JobReader<'_> {
         Ok(head)
     }
 
+    // The value kind whose name is due.
     fn kind(&mut self) -> Result<Kind, Refusal>
         ensures { Leads (at kind_word self.old) result (λ k. at (line_close (asked.Kind k)) self.new) }
     {

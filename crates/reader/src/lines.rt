@@ -66,6 +66,7 @@ impl Parser<'_> {
         Ok(())
     }
 
+    // The head of the inputs line.
     pub fn inputs_head(&mut self) -> Result<(), Refusal>
         ensures { Leads (at inputs_head self.old) result (λ _. at input_name self.new) }
     {
@@ -88,6 +89,7 @@ impl Parser<'_> {
         }
     }
 
+    // One name of an inputs line.
     fn input_name(&mut self, token: Token<'_>) -> Result<(), Refusal>
         requires { is_closing (lexeme token) ≡ false }
         ensures leads { Leads (resumed (step input_name (so_far self.old) (lexeme token.entry)) (ahead self.old)) result (λ _. at input_name self.new) }
@@ -134,6 +136,7 @@ impl Parser<'_> {
         }
     }
 
+    // The name of a gate line.
     pub fn gate_name(&mut self) -> Result<Name, Refusal>
         ensures { Advances gate_name self.old result (λ n. gate_begin (name_bytes n)) self.new }
     {
@@ -161,6 +164,7 @@ impl Parser<'_> {
         Ok(())
     }
 
+    // One name of an outputs line: the line that it lists.
     fn output_name(&mut self, token: Token<'_>) -> Result<(), Refusal>
         requires { is_closing (lexeme token) ≡ false }
         ensures leads { Leads (resumed (step output_name (so_far self.old) (lexeme token.entry)) (ahead self.old)) result (λ _. at output_name self.new) }

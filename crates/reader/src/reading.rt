@@ -16,6 +16,7 @@ use std::alloc::Global;
 // The most bytes of a text.
 const LONGEST_TEXT: usize = 65_536;
 
+// Whether a text has more bytes than that.
 fn is_too_long(text: &[u8]) -> bool
     ensures { result ≡ nat_lt 65536 (length text.now) }
 {

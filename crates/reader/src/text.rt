@@ -8,6 +8,7 @@ use crate::parser::Parser;
 use refusals::Refusal;
 
 impl Parser<'_> {
+    // The inputs line, to its end.
     fn inputs_line(&mut self) -> Result<(), Refusal>
         ensures { Leads (at inputs_line self.old) result (λ _. at next_line self.new) }
     {
