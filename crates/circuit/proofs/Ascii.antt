@@ -4,7 +4,7 @@ use Rattle.std.proofs.lemmas.Str.Ascii.{IsAscii-nil, IsAscii-cons}
 use Rattle.std.proofs.lemmas.Bool.{and_parts, or_cases, leb-true}
 use Rattle.std.proofs.lemmas.Str.{IsUtf8-from_ascii}
 use Rattle.words.specs.Bytes.{letter, digit, in_word}
-use Rattle.words.specs.Lists.{every}
+use Rattle.std.specs.List.{list_all}
 use Rattle.words.specs.Spelling.{letter_first, name_shape}
 
 small : (b : ℕ) → in_word b ≡ true → b < 128
@@ -14,10 +14,10 @@ small b h =
       | inr y ↦ omega (arith, leb-true b 57 (and_parts (leb 48 b) (leb b 57) y).1)
     ]
 
-ascii : (bs : List ℕ) → every in_word bs ≡ true → IsAscii bs
+ascii : (bs : List ℕ) → list_all in_word bs ≡ true → IsAscii bs
 ascii [] h = IsAscii-nil
-ascii (b ∷ bs) h = let p = and_parts (in_word b) (every in_word bs) h in IsAscii-cons b bs (small b p.0) (ascii bs p.1)
+ascii (b ∷ bs) h = let p = and_parts (in_word b) (list_all in_word bs) h in IsAscii-cons b bs (small b p.0) (ascii bs p.1)
 
 pub name_is_text : (bs : List ℕ) → name_shape bs ≡ true → IsUtf8 bs
 name_is_text bs h =
-    IsUtf8-from_ascii bs (ascii bs (and_parts (leb (length bs) 8) (every in_word bs) (and_parts (letter_first bs) (leb (length bs) 8 && every in_word bs) h).1).1)
+    IsUtf8-from_ascii bs (ascii bs (and_parts (leb (length bs) 8) (list_all in_word bs) (and_parts (letter_first bs) (leb (length bs) 8 && list_all in_word bs) h).1).1)

@@ -1,5 +1,5 @@
 -- What entering a fault comes to, where the circuit has it and the table does not.
-use Rattle.std.proofs.Common.{◌≡◌, ℕ, Bool, true, false, cond, leb, List, [], ◌∷◌, ◌++◌, map, length, is_ok, Ok, Err, vec_items, vec_len, Result, sym, ap, ◌∙◌, MatchResult}
+use Rattle.std.proofs.Common.{◌≡◌, ℕ, Bool, false, cond, leb, List, [], ◌∷◌, ◌++◌, map, length, is_ok, Ok, Err, vec_items, vec_len, Result, sym, ap, ◌∙◌, MatchResult}
 use Rattle.std.proofs.lemmas.List.{length-map, map_push}
 use Rattle.refusals.specs.declared.cause.Refusal.{Refusal}
 use Rattle.refusals.specs.declared.cause.Refusal.TheVariants.{Memory}

@@ -1,5 +1,5 @@
 -- What a granted search or cover leaves in the table.
-use Rattle.std.proofs.Common.{◌≡◌, ℕ, List, map, set, Ok, Err, Result, sym, refl, ap, ◌∙◌}
+use Rattle.std.proofs.Common.{◌≡◌, ℕ, List, map, set, Ok, Result, sym, refl, ap, ◌∙◌}
 use Rattle.std.proofs.lemmas.List.{map-set}
 use Rattle.refusals.specs.declared.layers.FolderRefusal.{FolderRefusal}
 use Rattle.values.specs.Kind.{Kind}

@@ -1,5 +1,5 @@
 -- A call that goes on after a part of it was granted.
-use Rattle.std.proofs.Common.{◌≡◌, Ok, Err, Result, sym, ap}
+use Rattle.std.proofs.Common.{◌≡◌, Ok, Result, sym, ap}
 use Rattle.refusals.specs.declared.layers.FolderRefusal.{FolderRefusal}
 use Rattle.folder.specs.Transitions.{and_then}
 

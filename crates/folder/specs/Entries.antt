@@ -2,7 +2,7 @@
 use Rattle.std.specs.Prelude.{ℕ, Bool, true, false, List, Option, codes}
 use Rattle.std.specs.declared.option.Option.TheVariants as option
 use Rattle.std.specs.Option.{option_map}
-use Rattle.words.specs.Lists.{some}
+use Rattle.std.specs.List.{list_any}
 use Rattle.faults.specs.declared.fault.Fault.{Fault}
 use Rattle.faults.specs.Faults.{same_fault}
 use Rattle.faults.specs.Cubes.{Cube, cube_model}
@@ -74,7 +74,7 @@ state_settled (Covered by) = true
 
 -- whether some entry of a table has that fault
 abbrev pub has_fault : List Entry → Fault → Bool
-has_fault table f = some (λ (e : Entry). same_fault e.fault f) table
+has_fault table f = list_any (λ (e : Entry). same_fault e.fault f) table
 
 -- the word of a state
 abbrev pub state_word : State → List ℕ

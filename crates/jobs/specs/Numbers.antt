@@ -6,7 +6,7 @@ use Rattle.refusals.specs.declared.layers.TextRefusal.TheVariants.{MalformedWord
 use Rattle.words.specs.Bytes.{digit}
 use Rattle.words.specs.Expected.{unexpected}
 use Rattle.words.specs.Lexemes.{Lexeme, Opening, Closing, Word, LineEnd, TextEnd, Forbidden}
-use Rattle.words.specs.Lists.{every}
+use Rattle.std.specs.List.{list_all}
 
 -- there is a digit, and no zero stands in front of another
 abbrev pub no_needless_zero : List ℕ → Bool
@@ -15,7 +15,7 @@ no_needless_zero (b ∷ []) = true
 no_needless_zero (b ∷ (c ∷ cs)) = not (b == 48)
 
 abbrev pub number_shape : List ℕ → Bool
-number_shape word = no_needless_zero word && (nat_le (length word) 7 && every digit word)
+number_shape word = no_needless_zero word && (nat_le (length word) 7 && list_all digit word)
 
 -- the number that the digits stand for
 abbrev pub number_value : List ℕ → ℕ

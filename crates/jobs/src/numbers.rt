@@ -2,7 +2,7 @@
 ghost use Rattle.std.specs.Prelude.{◌≡◌, true, false, MatchResult};
 ghost use Rattle.words.specs.Bytes.{digit};
 ghost use Rattle.words.specs.Lexemes.{lexeme};
-ghost use Rattle.words.specs.Lists.{every};
+ghost use Rattle.std.specs.List.{list_all};
 ghost use Rattle.jobs.specs.Numbers.{number_shape, number_value, is_number, not_number, NumberWord};
 
 use refusals::{Refusal, TextRefusal};
@@ -13,7 +13,7 @@ const MOST_DIGITS: usize = 7;
 
 // Whether each byte is a digit.
 fn all_digits(word: &[u8]) -> bool
-    ensures { result ≡ every digit word.now }
+    ensures { result ≡ list_all digit word.now }
 {
     word.iter().all(u8::is_ascii_digit)
 }

@@ -2,8 +2,7 @@
 use Rattle.std.proofs.Common.{◌≡◌, ℕ, ◌≤◌, Bool, true, false, cond, not, ◌&&◌, ◌||◌, ◌⊎◌, List, [], ◌∷◌, ◌++◌, map, length, set, Some, None, sym, refl, ap, ◌∙◌, subst, inl, inr, true≢false, arith}
 use Rattle.std.proofs.lemmas.List.{length-set, length-map, length_push}
 use Rattle.std.proofs.lemmas.Bool.{cases_eq, and_parts, not-true}
-use Rattle.std.specs.List.{slice_get}
-use Rattle.words.specs.Lists.{some}
+use Rattle.std.specs.List.{slice_get, list_any}
 use Rattle.values.specs.Pairs.{Pairs}
 use Rattle.values.specs.Kind.{Kind, Lawful}
 use Rattle.circuit.specs.Model.{Circuit}
@@ -23,7 +22,7 @@ use Rattle.law.proofs.Places.{nth_inside, nth_push_old, nth_push_new, nth_set_sa
 module _ (K : Kind) (c : Circuit) where
   -- no granted search of that entry was unspent
   abbrev pub Unsearched : List Event → ℕ → Type 0
-  Unsearched history n = some (is_unspent_search n) history ≡ false
+  Unsearched history n = list_any (is_unspent_search n) history ≡ false
 
   -- the entry of that number is fewest, and its cube is a test for the fault
   abbrev pub Backed : List Entry → Fault → ℕ → Type 0
@@ -56,7 +55,7 @@ module _ (K : Kind) (c : Circuit) where
 
   -- what is known stays known where the calls say the same of the entry, and entries that back others stay
   known_moves : (history later : List Event) (table after : List Entry) (n : ℕ) (f : Fault) (s : State)
-      → some (is_unspent_search n) later ≡ some (is_unspent_search n) history → ((m : ℕ) → Backed table f m → Backed after f m)
+      → list_any (is_unspent_search n) later ≡ list_any (is_unspent_search n) history → ((m : ℕ) → Backed table f m → Backed after f m)
       → Known history table n f s → Known later after n f s
   known_moves history later table after n f Open e b k = e ∙ k
   known_moves history later table after n f (Spent None tries) e b k = e ∙ k
@@ -70,8 +69,8 @@ module _ (K : Kind) (c : Circuit) where
     abbrev Idle : Type 0
     Idle = (n : ℕ) → is_unspent_search n event ≡ false
 
-    idle_same : (n : ℕ) → is_unspent_search n event ≡ false → some (is_unspent_search n) (event ∷ history) ≡ some (is_unspent_search n) history
-    idle_same n e = ap (λ (b : Bool). b || some (is_unspent_search n) history) e
+    idle_same : (n : ℕ) → is_unspent_search n event ≡ false → list_any (is_unspent_search n) (event ∷ history) ≡ list_any (is_unspent_search n) history
+    idle_same n e = ap (λ (b : Bool). b || list_any (is_unspent_search n) history) e
 
     -- the table is left as it was
     pub kept_same : Idle → Kept (event ∷ history) table
@@ -117,7 +116,7 @@ module _ (K : Kind) (c : Circuit) where
       known_here : (after : List Entry) (a : visiting.Answer) → Means K c x.fault a → is_unspent_search number event ≡ is_unspent a
           → Known (event ∷ history) after number x.fault (filed a)
       known_here after (visiting.Fewest q tries) m o = m
-      known_here after (visiting.Redundant tries) m o = (ap (λ (b : Bool). b || some (is_unspent_search number) history) o, m)
+      known_here after (visiting.Redundant tries) m o = (ap (λ (b : Bool). b || list_any (is_unspent_search number) history) o, m)
       known_here after (visiting.Spent None tries) m o = idle_same number o ∙ unsearched_before
       known_here after (visiting.Spent (Some q) tries) m o = (idle_same number o ∙ unsearched_before, m)
 

@@ -2,9 +2,8 @@
 -- and cubes. It speaks of vectors, of cubes that the kind shows to detect a fault, and of the calls made, and of no step of
 -- the program.
 use Rattle.std.specs.Prelude.{◌≡◌, ℕ, Bool, true, false, ◌&&◌, List, Some, Ok, Err, Result, ◌==◌}
-use Rattle.std.specs.List.{slice_get}
+use Rattle.std.specs.List.{slice_get, list_any}
 use Rattle.refusals.specs.declared.cause.Refusal.{Refusal}
-use Rattle.words.specs.Lists.{some}
 use Rattle.values.specs.Kind.{Kind}
 use Rattle.circuit.specs.Model.{Circuit}
 use Rattle.faults.specs.Cubes.{Cube}
@@ -42,7 +41,7 @@ is_unspent_search number e = searches number e.call && is_granted_unspent e.resu
 
 -- some granted search of that entry was not spent
 abbrev pub SearchedUnspent : List Event → ℕ → Type 0
-SearchedUnspent history number = some (is_unspent_search number) history ≡ true
+SearchedUnspent history number = list_any (is_unspent_search number) history ≡ true
 
 abbrev pub IsRedundant : State → Type 0
 IsRedundant s = (tries : ℕ) × (s ≡ Redundant tries)

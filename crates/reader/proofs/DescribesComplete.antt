@@ -3,7 +3,7 @@ use Rattle.std.proofs.Common.{◌≡◌, ℕ, suc, ◌+◌, ◌<◌, ◌≤◌, 
 use Rattle.std.proofs.lemmas.List.{length_push, map_push, length-map}
 use Rattle.std.proofs.lemmas.Bool.{and_parts, cond-false, lt-leb, le-ltb, ne_eqb, not-true}
 use Rattle.words.specs.Lexemes.{Lexeme, Opening, Closing, Word, LineEnd, TextEnd, Forbidden}
-use Rattle.words.specs.Lists.{every}
+use Rattle.std.specs.List.{list_all}
 use Rattle.words.specs.Spelling.{name_shape}
 use Rattle.circuit.specs.Ops.{fewest_operands, most_operands, op_word}
 use Rattle.circuit.specs.Model.{Gate, Circuit, line_count, line_named}
@@ -93,7 +93,7 @@ gate_lines_lead (g ∷ gs) c ms rules limit =
     gate_line_leads g c _ rules.0 (omega (arith, all_lines_grow gs (with_gate_line c g)))
     then gate_lines_lead gs (with_gate_line c g) ms rules.1 limit
 
-inputs_lead : (ws before : List (List ℕ)) (ms : List Mark) → every name_shape ws ≡ true
+inputs_lead : (ws before : List (List ℕ)) (ms : List Mark) → list_all name_shape ws ≡ true
     → each_after unclaimed (map Some before) (map Some ws) ≡ true → length before + length ws ≤ 64
     → Leads input_name (inputs_alone before) (names_then ws ms) input_name (inputs_alone (before ++ ws)) ms
 inputs_lead [] before ms shaped new few = stays refl (ap inputs_alone (sym (append-nil before)))
@@ -107,7 +107,7 @@ inputs_lead (w ∷ ws) before ms shaped new few =
     then inputs_lead ws (before ++ (w ∷ [])) ms shapes.1 later-new (omega (arith, length_push before w))
     then stays refl (ap inputs_alone (append_assoc before (w ∷ []) ws))
 
-outputs_lead : (ws : List (List ℕ)) (c : Circuit) (ms : List Mark) → every name_shape ws ≡ true → every (known c) ws ≡ true
+outputs_lead : (ws : List (List ℕ)) (c : Circuit) (ms : List Mark) → list_all name_shape ws ≡ true → list_all (known c) ws ≡ true
     → each_after unlisted c.outputs (map (number_of c) ws) ≡ true → length c.outputs + length ws ≤ 64
     → Leads output_name c (names_then ws ms) output_name (with_outputs c ws) ms
 outputs_lead [] c ms shaped known_names new few =

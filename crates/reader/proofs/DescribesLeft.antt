@@ -2,7 +2,7 @@
 -- due, and what the rules ask of them.
 use Rattle.std.proofs.Common.{◌≡◌, ℕ, ◌+◌, ◌-◌, ◌<◌, ◌≤◌, true, false, ◌⊎◌, List, [], ◌∷◌, ◌++◌, map, length, Some, codes}
 use Rattle.words.specs.Lexemes.{Lexeme}
-use Rattle.words.specs.Lists.{every}
+use Rattle.std.specs.List.{list_all}
 use Rattle.words.specs.Spelling.{name_shape}
 use Rattle.circuit.specs.declared.op.Op.{Op}
 use Rattle.circuit.specs.Ops.{fewest_operands, most_operands, op_word}
@@ -35,8 +35,8 @@ module _ (d : Circuit) (place : ℕ) where
     pub outputs : List (List ℕ)
     pub left : List Lexeme
     pub front : Front (λ (ms : List Mark). names_then outputs (closing ∷ ms)) ts left
-    pub shaped : every name_shape outputs ≡ true
-    pub known_names : every (known c) outputs ≡ true
+    pub shaped : list_all name_shape outputs ≡ true
+    pub known_names : list_all (known c) outputs ≡ true
     pub new : each_after unlisted c.outputs (map (number_of c) outputs) ≡ true
     pub few : length outputs ≤ 64 - length c.outputs
     pub any : 1 ≤ length c.outputs + length outputs
@@ -54,7 +54,7 @@ module _ (d : Circuit) (place : ℕ) where
     pub inputs : List (List ℕ)
     pub left : List Lexeme
     pub front : Front (λ (ms : List Mark). names_then inputs (closing ∷ (line_feed ∷ ms))) ts left
-    pub shaped : every name_shape inputs ≡ true
+    pub shaped : list_all name_shape inputs ≡ true
     pub new : each_after unclaimed (map Some before) (map Some inputs) ≡ true
     pub few : length inputs ≤ 64 - length before
     pub any : 1 ≤ length before + length inputs

@@ -1,9 +1,10 @@
 -- Lines of a circuit: how the gates of a line change their names and their number.
-use Rattle.std.proofs.Common.{◌≡◌, ℕ, suc, ◌-◌, ◌<◌, ◌≤◌, Bool, true, false, ◌&&◌, leb, List, [], ◌∷◌, ◌++◌, map, length, is_some, Some, None, Option, unwrap_or, sym, refl, ap, ◌∙◌, append_assoc, arith}
+use Rattle.std.proofs.Common.{◌≡◌, ℕ, suc, ◌-◌, ◌<◌, ◌≤◌, Bool, true, leb, List, [], ◌∷◌, ◌++◌, map, length, is_some, Some, None, Option, unwrap_or, sym, refl, ap, ◌∙◌, append_assoc, arith}
 use mathlib.Core.Path.{fun_ext}
 use Rattle.std.proofs.lemmas.List.{length_push}
 use Rattle.std.proofs.lemmas.Bool.{and_parts, and_from, leb-true, le-leb}
-use Rattle.words.specs.Lists.{every}
+use Rattle.std.specs.List.{list_all}
+use Rattle.std.proofs.lemmas.List.Folds.{list_all-append}
 use Rattle.words.specs.Spelling.{name_shape}
 use Rattle.circuit.specs.declared.op.Op.{Op}
 use Rattle.circuit.specs.declared.op.Op.TheVariants.{And, Nand, Or, Nor, Xor, Xnor, Not, Buf}
@@ -41,14 +42,6 @@ pub number_known : (o : Option ℕ) → is_some o ≡ true → o ≡ Some (unwra
 number_known (Some line) e = refl
 number_known None e = let z : ◌≡◌ {A = ℕ} 0 1 = cc in absurd (omega arith)
 
-pub every_append : {X : Type 0} (p : X → Bool) (xs ys : List X) → every p (xs ++ ys) ≡ (every p xs && every p ys)
-every_append p [] ys = refl
-every_append p (x ∷ xs) ys = with_first (p x) (every_append p xs ys)
-  where
-    with_first : (b : Bool) → every p (xs ++ ys) ≡ (every p xs && every p ys) → (b && every p (xs ++ ys)) ≡ ((b && every p xs) && every p ys)
-    with_first true e = e
-    with_first false e = refl
-
 -- the circuit behind a gate that is an operand of another
 abbrev pub behind : Circuit → Op → Operands → Circuit
 behind c op inner = with_gate (made c inner).circuit (record { name = None; op = op; operands = (made c inner).lines })
@@ -67,9 +60,9 @@ same_lines (gate_then op inner more) c w =
     ∙ (same_lines_unnamed (made c inner).circuit op (made c inner).lines w ∙ same_lines inner c w)
 
 -- the same names are known behind a gate that is an operand
-pub same_known : (c : Circuit) (op : Op) (inner : Operands) (ws : List (List ℕ)) → every (known (behind c op inner)) ws ≡ every (known c) ws
+pub same_known : (c : Circuit) (op : Op) (inner : Operands) (ws : List (List ℕ)) → list_all (known (behind c op inner)) ws ≡ list_all (known c) ws
 same_known c op inner ws =
-    ap (λ (k : List ℕ → Bool). every k ws)
+    ap (λ (k : List ℕ → Bool). list_all k ws)
     (fun_ext (λ (w : List ℕ). ap is_some (same_lines_unnamed (made c inner).circuit op (made c inner).lines w ∙ same_lines inner c w)))
 
 -- Counts
@@ -131,8 +124,8 @@ with_outputs c ws = record { inputs = c.inputs; gates = c.gates; outputs = c.out
 -- What the rules ask of operands behind the lines of c, inside that many gates, but for how many they are. Two brackets
 -- are open around the outermost gate's operands.
 pub record Right (c : Circuit) (depth : ℕ) (a : Operands) : Type 0 where
-  pub shaped : every name_shape (names_in a) ≡ true
-  pub known_names : every (known c) (names_in a) ≡ true
+  pub shaped : list_all name_shape (names_in a) ≡ true
+  pub known_names : list_all (known c) (names_in a) ≡ true
   pub take : gates_take a ≡ true
   pub nest : nesting a ≤ 6 - depth
 
@@ -170,9 +163,9 @@ module _ (c : Circuit) (depth : ℕ) (w : List ℕ) (more : Operands) where
 module _ (c : Circuit) (depth : ℕ) (op : Op) (inner more : Operands) where
   pub right_gate : RightGate c depth op inner more → Right c depth (gate_then op inner more)
   right_gate r = record {
-    shaped = every_append name_shape (names_in inner) (names_in more) ∙ and_from _ _ r.within.shaped r.after.shaped;
+    shaped = list_all-append name_shape (names_in inner) (names_in more) ∙ and_from _ _ r.within.shaped r.after.shaped;
     known_names =
-        every_append (known c) (names_in inner) (names_in more)
+        list_all-append (known c) (names_in inner) (names_in more)
         ∙ and_from _ _ r.within.known_names (sym (same_known c op inner (names_in more)) ∙ r.after.known_names);
     take = and_from _ _ r.count (and_from _ _ r.within.take r.after.take);
     nest = omega arith;
@@ -180,8 +173,8 @@ module _ (c : Circuit) (depth : ℕ) (op : Op) (inner more : Operands) where
 
   pub right_gate_parts : Right c depth (gate_then op inner more) → RightGate c depth op inner more
   right_gate_parts r =
-      let shaped = and_parts (every name_shape (names_in inner)) _ (sym (every_append name_shape (names_in inner) (names_in more)) ∙ r.shaped) in
-      let known_names = and_parts (every (known c) (names_in inner)) _ (sym (every_append (known c) (names_in inner) (names_in more)) ∙ r.known_names) in
+      let shaped = and_parts (list_all name_shape (names_in inner)) _ (sym (list_all-append name_shape (names_in inner) (names_in more)) ∙ r.shaped) in
+      let known_names = and_parts (list_all (known c) (names_in inner)) _ (sym (list_all-append (known c) (names_in inner) (names_in more)) ∙ r.known_names) in
       let count = and_parts (takes op inner) _ r.take in
       let take = and_parts (gates_take inner) _ count.1 in
       record {

@@ -6,7 +6,7 @@ use Rattle.std.proofs.lemmas.List.{length_push, map_push}
 use Rattle.std.proofs.lemmas.Bool.{and_from, leb-false, ltb-false, eqb-false, not_from_false}
 use Rattle.refusals.specs.declared.cause.Refusal.{Refusal}
 use Rattle.words.specs.Lexemes.{Lexeme, Opening, Closing, Word, LineEnd, TextEnd, Forbidden, lexemes}
-use Rattle.words.specs.Lists.{some}
+use Rattle.std.specs.List.{list_any}
 use Rattle.words.specs.Spelling.{name_shape}
 use Rattle.circuit.specs.declared.op.Op.{Op}
 use Rattle.circuit.specs.declared.op.Op.TheVariants.{And, Nand, Or, Nor, Xor, Xnor, Not, Buf}
@@ -109,7 +109,7 @@ module _ (d : Circuit) (place : ℕ) where
         → lead ts (output_found c n found) ≡ Granted d place → OutputsLeft d place c (Word w n ∷ ts)
     output_more w shape None is_found e = dead e
     output_more w shape (Some line) is_found e =
-        let new = avoids (some (eqb line) c.outputs) _ _ ts e in
+        let new = avoids (list_any (eqb line) c.outputs) _ _ ts e in
         let room = avoids (leb 64 (length c.outputs)) _ _ ts new.1 in
         let more = later output_name (with_output c line) room.1 in
         let lines = map (number_of c) more.outputs in

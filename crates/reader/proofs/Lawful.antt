@@ -1,12 +1,11 @@
 -- Every circuit that reading grants keeps the rules of circuits, and its text ends within the text that was read.
 use Rattle.std.proofs.Common.{◌≡◌, ℕ, ◌+◌, ◌<◌, ◌≤◌, Bool, true, false, cond, eqb, ltb, leb, List, [], ◌∷◌, ◌++◌, length, is_some, Some, None, codes, Option, sym, refl, ap, ◌∙◌, subst, zero-add, arith}
-use Rattle.std.specs.List.{AllByRecursion as All}
+use Rattle.std.specs.List.{AllByRecursion as All, list_all, list_any}
 use Rattle.std.specs.Str.{bytes_eq}
 use Rattle.std.proofs.ByRecursion.{All-weaker}
 use Rattle.std.proofs.lemmas.List.{length_push}
 use Rattle.std.proofs.lemmas.Bool.{and_from, not_from_false, ltb-false, leb-false, eqb-false, lt-ltb, le-leb, cond_both}
 use Rattle.words.specs.Lexemes.{Lexeme, Opening, Closing, Word, LineEnd, TextEnd, Forbidden, lexemes}
-use Rattle.words.specs.Lists.{every, some}
 use Rattle.words.specs.Spelling.{name_shape}
 use Rattle.circuit.specs.declared.op.Op.{Op}
 use Rattle.circuit.specs.Lawful.{each_after, new_output, lawful}
@@ -16,7 +15,7 @@ use Rattle.reader.specs.Reading.{Pending, Due, inputs_line, inputs_head, input_n
 use Rattle.reader.specs.Reading.{Outcome, Granted, Refused, Step, Go, Stop, taken, is_head, full, too_few, open_brackets, empty, run, step, reading}
 use Rattle.reader.specs.Reading.{with_operand, with_input, with_output, with_name, last_named, made_gate, gate_made, operand_found, output_found, operator_found, word_step, opening_step, closing_step, feed_step, end_step}
 use Rattle.reader.proofs.Ends.{EndsBy, lexemes_end}
-use Rattle.reader.proofs.Rules.{Lined, is_named, lined_push, lined_named, lined_input, last_named_push, below, Below, found_below, every_push, every_below_more, each_after_push, line_names_push, line_named_push, length_line_names}
+use Rattle.reader.proofs.Rules.{Lined, is_named, lined_push, lined_named, lined_input, last_named_push, below, Below, found_below, all_push, all_below_more, each_after_push, line_names_push, line_named_push, length_line_names}
 
 -- What is known of the circuit so far: while the inputs line is read, while gates are, and while outputs are.
 record InputsRead (c : Circuit) : Type 0 where
@@ -39,11 +38,11 @@ record OutputsRead (c : Circuit) : Type 0 where
 -- a gate inside it has room for one more.
 record Fitting (lines : ℕ) (p : Pending) : Type 0 where
   within : length p.operands ≤ most_operands p.op
-  lower : every (below lines) p.operands ≡ true
+  lower : list_all (below lines) p.operands ≡ true
 
 record Roomy (lines : ℕ) (p : Pending) : Type 0 where
   room : length p.operands < most_operands p.op
-  lower : every (below lines) p.operands ≡ true
+  lower : list_all (below lines) p.operands ≡ true
 
 abbrev unnamed : Pending → Gate
 unnamed p = record { name = None; op = p.op; operands = p.operands }
@@ -112,14 +111,14 @@ kept_input c word k free room = record {
 kept_operand : (lines line : ℕ) (p : Pending) → line < lines → Roomy lines p → Fitting lines (with_operand p line)
 kept_operand lines line p lt k = record {
   within = simp length_push (omega arith);
-  lower = every_push (below lines) p.operands line k.lower (lt-ltb line lines lt);
+  lower = all_push (below lines) p.operands line k.lower (lt-ltb line lines lt);
 }
 
 roomy : (lines : ℕ) (p : Pending) → full p ≡ false → Fitting lines p → Roomy lines p
 roomy lines p room k = record { room = leb-false (most_operands p.op) (length p.operands) room; lower = k.lower }
 
 roomy_more : (lines more : ℕ) → lines ≤ more → (p : Pending) → Roomy lines p → Roomy more p
-roomy_more lines more le p k = record { room = k.room; lower = every_below_more lines more p.operands le k.lower }
+roomy_more lines more le p k = record { room = k.room; lower = all_below_more lines more p.operands le k.lower }
 
 -- the innermost pending gate is made
 module _ (c : Circuit) (name : List ℕ) (inner : Pending) where
@@ -185,7 +184,7 @@ no_outputs_yet c k = record {
 }
 
 -- one more output
-kept_output : (c : Circuit) (line : ℕ) → OutputsRead c → line < line_count c → some (eqb line) c.outputs ≡ false
+kept_output : (c : Circuit) (line : ℕ) → OutputsRead c → line < line_count c → list_any (eqb line) c.outputs ≡ false
     → length c.outputs < 64 → OutputsRead (with_output c line)
 kept_output c line k lt new room = record {
   lined = k.lined;
@@ -212,7 +211,7 @@ kept_output_found : (end : ℕ) (c : Circuit) (n : ℕ) (found : Option ℕ) →
     → After end (output_found c n found)
 kept_output_found end c n None k lt = tt
 kept_output_found end c n (Some line) k lt =
-    unless end (some (eqb line) c.outputs) _ _ tt
+    unless end (list_any (eqb line) c.outputs) _ _ tt
     (λ new. unless end (leb 64 (length c.outputs)) _ _ tt
     (λ room. kept_output c line k lt new (leb-false 64 (length c.outputs) room)))
 

@@ -5,7 +5,7 @@ use Rattle.std.specs.Option.{option_map}
 use Rattle.std.proofs.lemmas.List.{append-nil, append_assoc, map-append, length-append, length-map, length_push}
 use Rattle.std.proofs.lemmas.List.Folds.{list_all-append}
 use Rattle.std.proofs.lemmas.Bool.{and_parts, and_from, not_from_false, ltb-true, lt-ltb}
-use Rattle.words.specs.Lists.{every}
+use Rattle.std.specs.List.{list_all}
 use Rattle.circuit.specs.Lawful.{each_after, gate_fits, unclaimed}
 use Rattle.circuit.specs.Model.{Gate, has_name, line_named}
 use Rattle.reader.specs.Reading.{last_named}
@@ -19,18 +19,18 @@ each_after_push {X} right before (x ∷ xs) y =
     ∙ sym (and_assoc (right before x) (each_after right (before ++ (x ∷ [])) xs) (right ((before ++ (x ∷ [])) ++ xs) y))
     ∙ ap (λ (front : List X). (right before x && each_after right (before ++ (x ∷ [])) xs) && right front y) (append_assoc before (x ∷ []) xs)
 
-pub every_push : {X : Type 0} (p : X → Bool) (xs : List X) (y : X) → every p xs ≡ true → p y ≡ true → every p (xs ++ (y ∷ [])) ≡ true
-every_push p xs y all this = list_all-append p xs (y ∷ []) ∙ and_from _ _ all (and_from _ _ this refl)
+pub all_push : {X : Type 0} (p : X → Bool) (xs : List X) (y : X) → list_all p xs ≡ true → p y ≡ true → list_all p (xs ++ (y ∷ [])) ≡ true
+all_push p xs y all this = list_all-append p xs (y ∷ []) ∙ and_from _ _ all (and_from _ _ this refl)
 
 abbrev pub below : ℕ → ℕ → Bool
 below lines o = ltb o lines
 
-pub every_below_more : (lines more : ℕ) (xs : List ℕ) → lines ≤ more → every (below lines) xs ≡ true → every (below more) xs ≡ true
-every_below_more lines more [] le all = refl
-every_below_more lines more (x ∷ xs) le all =
-    let parts = and_parts (below lines x) (every (below lines) xs) all in
+pub all_below_more : (lines more : ℕ) (xs : List ℕ) → lines ≤ more → list_all (below lines) xs ≡ true → list_all (below more) xs ≡ true
+all_below_more lines more [] le all = refl
+all_below_more lines more (x ∷ xs) le all =
+    let parts = and_parts (below lines x) (list_all (below lines) xs) all in
     let lower = ltb-true x lines parts.0 in
-    and_from (below more x) (every (below more) xs) (lt-ltb x more (omega arith)) (every_below_more lines more xs le parts.1)
+    and_from (below more x) (list_all (below more) xs) (lt-ltb x more (omega arith)) (all_below_more lines more xs le parts.1)
 
 -- a line with no name is found by none
 pub line_named_push : (names : List (Option (List ℕ))) (word : List ℕ) → line_named (names ++ (None ∷ [])) word ≡ line_named names word

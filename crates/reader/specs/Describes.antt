@@ -4,7 +4,7 @@ use Rattle.std.specs.Prelude.{◌≡◌, ℕ, suc, ◌+◌, ◌≤◌, max, Bool
 use Rattle.std.specs.Option.{unwrap_or}
 use Rattle.words.specs.Lexemes.{Lexeme, lexemes}
 use Rattle.words.specs.Lexemes as lexeme
-use Rattle.words.specs.Lists.{every, some}
+use Rattle.std.specs.List.{list_all, list_any}
 use Rattle.words.specs.Spelling.{name_shape}
 use Rattle.circuit.specs.declared.op.Op.{Op}
 use Rattle.circuit.specs.Ops.{op_word, fewest_operands, most_operands}
@@ -167,8 +167,8 @@ nesting (gate_then op inner more) = max (suc (nesting inner)) (nesting more)
 pub record GateLineRules (c : Circuit) (g : GateLine) : Type 0 where
   pub name_shaped : name_shape g.name ≡ true
   pub name_new : known c g.name ≡ false
-  pub names_shaped : every name_shape (names_in g.operands) ≡ true
-  pub names_known : every (known c) (names_in g.operands) ≡ true
+  pub names_shaped : list_all name_shape (names_in g.operands) ≡ true
+  pub names_known : list_all (known c) (names_in g.operands) ≡ true
   pub own_count : takes g.op g.operands ≡ true
   pub inner_counts : gates_take g.operands ≡ true
   pub brackets : 2 + nesting g.operands ≤ 8
@@ -179,18 +179,18 @@ GateLinesRules c (g ∷ gs) = GateLineRules c g × GateLinesRules (with_gate_lin
 
 -- not listed before
 abbrev pub unlisted : List ℕ → ℕ → Bool
-unlisted before line = not (some (nat_eq line) before)
+unlisted before line = not (list_any (nat_eq line) before)
 
 -- The rules for a source. A name is given once, is known from the line behind it on, and has the shape of a name.
 pub record Rules (s : Source) : Type 0 where
   pub input_count : between 1 64 (length s.inputs) ≡ true
-  pub inputs_shaped : every name_shape s.inputs ≡ true
+  pub inputs_shaped : list_all name_shape s.inputs ≡ true
   pub inputs_new : each_after unclaimed [] (map Some s.inputs) ≡ true
   pub gate_lines : GateLinesRules (inputs_alone s.inputs) s.gates
   pub line_limit : line_count (all_lines s) ≤ 512
   pub output_count : between 1 64 (length s.outputs) ≡ true
-  pub outputs_shaped : every name_shape s.outputs ≡ true
-  pub outputs_known : every (known (all_lines s)) s.outputs ≡ true
+  pub outputs_shaped : list_all name_shape s.outputs ≡ true
+  pub outputs_known : list_all (known (all_lines s)) s.outputs ≡ true
   pub no_line_twice : each_after unlisted [] (map (number_of (all_lines s)) s.outputs) ≡ true
 
 -- The text describes the circuit: it begins with the words of a source that keeps the rules and stands for the circuit.

@@ -8,7 +8,7 @@ use Rattle.refusals.specs.declared.layers.TextRefusal.TheVariants.{ForbiddenByte
 use Rattle.refusals.specs.declared.layers.FormRefusal.TheVariants.{Misplaced, UnknownWord, WrongOperandCount}
 use Rattle.refusals.specs.declared.layers.CircuitRefusal.TheVariants.{UnknownName, NameTaken, LimitPassed, EndsEarly}
 use Rattle.words.specs.Lexemes.{Lexeme, Opening, Closing, Word, LineEnd, TextEnd, Forbidden, lexemes}
-use Rattle.words.specs.Lists.{some}
+use Rattle.std.specs.List.{list_any}
 use Rattle.words.specs.Spelling.{name_shape}
 use Rattle.circuit.specs.declared.op.Op.{Op}
 use Rattle.circuit.specs.Ops.{op_named, fewest_operands, most_operands}
@@ -138,7 +138,7 @@ operand_found c name inner pending n (Some line) = Go (operand name (with_operan
 abbrev pub output_found : Circuit → ℕ → Option ℕ → Step
 output_found c n None = unknown_name n
 output_found c n (Some line) =
-    cond (some (nat_eq line) c.outputs) (name_taken n)
+    cond (list_any (nat_eq line) c.outputs) (name_taken n)
     (cond (nat_le 64 (length c.outputs)) (limit_passed n)
     (Go output_name (with_output c line)))
 

@@ -2,5 +2,4 @@ pub mod Bytes
 pub mod Expected
 pub mod Left
 pub mod Lexemes
-pub mod Lists
 pub mod Spelling
