@@ -1,5 +1,5 @@
-// Known answers of the circuit reader: tables of texts, each with the answer that reading it must give. The answers were
-// worked out by hand from the rules, and none was copied from a run.
+// Known answers: tables of texts, each with the answer that reading it must give; the limit on entries; and searches and a
+// cover. The answers were worked out by hand from the rules, and none was copied from a run.
 #![tactic(auto)]
 
 #[cfg(test)]
@@ -12,6 +12,8 @@ mod expect;
 mod granted;
 #[cfg(test)]
 mod limits;
+#[cfg(test)]
+mod names;
 #[cfg(test)]
 mod order;
 #[cfg(test)]

@@ -12,6 +12,7 @@ use crate::gate::Gate;
 use crate::name::Name;
 use crate::tables::Tables;
 
+// Whether a line, by the name that it has or lacks, has that name.
 fn has_name(name: Option<&Name>, word: &[u8]) -> bool
     ensures { result ≡ has_name word.now (option_map (λ n. name_bytes n.now) name.entry) }
 {

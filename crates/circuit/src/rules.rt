@@ -25,6 +25,7 @@ impl Gate {
 }
 
 impl Tables {
+    // Whether there are as many inputs, lines and outputs as a circuit may have.
     fn sizes_fit(&self) -> bool
         ensures { result ≡ (between 1 64 (length (tables_model self.now).inputs) && (nat_le (line_count (tables_model self.now)) 512 && between 1 64 (length (tables_model self.now).outputs))) }
     {
@@ -33,6 +34,7 @@ impl Tables {
             && (1..=MOST_OUTPUTS).contains(&self.outputs.len())
     }
 
+    // Whether each gate fits its line.
     fn gates_fit(&self) -> bool
         ensures { result ≡ each_after (λ (before : List GateModel). gate_fits (length (tables_model self.now).inputs + length before)) [] (tables_model self.now).gates }
     {
@@ -49,6 +51,7 @@ impl Tables {
             .is_none_or(|name| self.named_below(line, name.bytes()).is_none())
     }
 
+    // Whether no two lines have one name.
     fn names_differ(&self) -> bool
         ensures { result ≡ each_after unclaimed [] (names (tables_model self.now)) }
     {
@@ -64,6 +67,7 @@ impl Tables {
             && !self.outputs[..index].contains(output))
     }
 
+    // Whether the tables keep all rules.
     pub(crate) fn is_lawful(&self) -> bool
         ensures { result ≡ lawful (tables_model self.now) }
     {

@@ -1,5 +1,6 @@
 -- Entries and their states, as the definitions speak of them: cubes as their two words.
 use Rattle.std.specs.Prelude.{ℕ, Bool, true, false, List, Option, codes}
+use Prim.Native.Nat.{zero-le}
 use Rattle.std.specs.declared.option.Option.TheVariants as option
 use Rattle.std.specs.Option.{option_map}
 use Rattle.std.specs.List.{list_any}
@@ -42,7 +43,7 @@ entry_model e = record { fault = e.fault; state = state_model e.state }
 
 -- a new entry of a fault, as the code has it
 abbrev pub new_entry : Fault → code_entry.Entry
-new_entry f = record { fault = f; state = state.Open }
+new_entry f = record { fault = f; state = state.Open; few = zero-le }
 
 -- a new entry of a fault, as the definitions have it
 abbrev pub opened : Fault → Entry

@@ -1,3 +1,4 @@
+pub mod Tries
 pub mod Entries
 pub mod Folders
 pub mod Transitions

@@ -43,7 +43,8 @@ fn allow_simulation(circuit: &Circuit, cube: Cube, places: usize) -> Result<(), 
     Ok(())
 }
 
-// The cube of the entry of that number, against the faults of the others.
+// The cube of the entry of that number, against the faults of the others. (The row, which each simulation writes, stays a
+// parameter: beside it in a struct, each method would have to say that the other parts stay.)
 #[derive(Clone, Copy)]
 struct Covering<'a> {
     circuit: &'a Circuit,

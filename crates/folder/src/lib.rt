@@ -3,6 +3,7 @@
 
 mod calls;
 mod cover;
+mod entries;
 pub mod entry;
 pub mod folder;
 mod search;

@@ -16,6 +16,7 @@ use simulator::Socket;
 use values::kind::ValueKind;
 use visit::{Answer, visit};
 
+// Whether a budget is one that a search may have.
 fn is_in_range(budget: usize) -> bool
     ensures { result ≡ budget_in_range budget }
 {
@@ -48,6 +49,8 @@ impl Folder {
         self.entries[number] = entry;
     }
 
+    // (Socket and row are two things of the caller's, each with what becomes of it in a clause: a struct of both would be taken
+    // apart in each call.)
     // Searches for a test that drives the fewest inputs, for the fault of the entry of that number, in at most so many
     // tries, and files the answer in the entry. The row must have room for each line of the circuit.
     pub fn search<V: ValueKind>(

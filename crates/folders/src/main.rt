@@ -5,7 +5,6 @@ use anyhow::Context;
 use circuit::Circuit;
 use folder::Folder;
 use reader::read;
-use refusals::Refusal;
 use replies::Reply;
 use session::{Answer, Session};
 use std::io::Read;

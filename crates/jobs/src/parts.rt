@@ -12,7 +12,8 @@ use faults::StuckAt;
 use refusals::{CircuitRefusal, FormRefusal, Refusal};
 use words::{Lexer, Mark, PlacedWord, Token, expect_mark, expect_word};
 
-// A job line that is being read: what is left of its text, the circuit whose lines it may name, and whether a kind was chosen.
+// A job line that is being read: what is left of its text, the circuit whose lines it may name, and whether a kind was chosen
+// (which one it is changes nothing in how a line is read).
 #[derive(Clone, Copy)]
 pub struct JobReader<'a> {
     pub lexer: Lexer<'a>,

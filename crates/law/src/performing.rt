@@ -12,6 +12,7 @@ use refusals::Refusal;
 use simulator::Socket;
 use values::kind::ValueKind;
 
+// Does what the call asks for.
 fn act<V: ValueKind>(
     folder: &mut Folder,
     call: Call,

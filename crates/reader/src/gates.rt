@@ -93,7 +93,8 @@ impl Parser<'_> {
         self.operands(op, allowed)
     }
 
-    // The operands of a gate, to its closing bracket: the number of the gate's line.
+    // The operands of a gate, to its closing bracket: the number of the gate's line. (A loop and no chain: the next token
+    // depends on what the last operand took, and each may end the reading.)
     #[cycle(gate_operand_operands)]
     fn operands(&mut self, op: Op, allowed: usize) -> Result<usize, Refusal>
         ensures leads { InGates allowed (λ name pending. Leads (at (operand name (record { op = op; operands = [] }) pending) self.old) result (λ line. resumed (gate_made (so_far self.new) name line pending) (ahead self.new))) }
@@ -111,7 +112,8 @@ impl Parser<'_> {
         }
     }
 
-    // One operand: the line of its name, or of the gate that it is.
+    // One operand: the line of its name, or of the gate that it is. Of the operands before it only one thing matters, whether
+    // the gate has as many as it takes.
     #[cycle(gate_operand_operands)]
     fn operand(&mut self, token: Token<'_>, is_full: bool, allowed: usize) -> Result<usize, Refusal>
         requires { is_closing (lexeme token) ≡ false }

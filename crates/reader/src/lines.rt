@@ -89,7 +89,8 @@ impl Parser<'_> {
         }
     }
 
-    // One name of an inputs line.
+    // One name of an inputs line. (That the token is no closing bracket is asked here, of an output's name and of an operand: a
+    // type of tokens without that one case would repeat the other five.)
     fn input_name(&mut self, token: Token<'_>) -> Result<(), Refusal>
         requires { is_closing (lexeme token) ≡ false }
         ensures leads { Leads (resumed (step input_name (so_far self.old) (lexeme token.entry)) (ahead self.old)) result (λ _. at input_name self.new) }

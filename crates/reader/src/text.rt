@@ -29,7 +29,8 @@ impl Parser<'_> {
         self.line_end()
     }
 
-    // The whole circuit: the place where the rest of the text begins.
+    // The whole circuit: the place where the rest of the text begins. (A loop and no chain: the next line begins where the last
+    // one ended, and each may end the reading.)
     pub fn circuit_text(&mut self) -> Result<usize, Refusal>
         ensures { Leads (at inputs_line self.old) result (λ place. Granted (so_far self.new) place) }
     {

@@ -11,6 +11,7 @@ use std::alloc::Global;
 use words::{Lexer, Token};
 
 impl<'a> Parser<'a> {
+    // Begins to read a text, with nothing in the tables.
     pub fn new(heap: Global, text: &'a [u8]) -> Parser<'a>
         ensures ahead { ahead result ≡ lexemes 0 text.now }
         ensures nothing { so_far result ≡ empty }
@@ -27,6 +28,7 @@ impl<'a> Parser<'a> {
         }
     }
 
+    // Takes the next token.
     pub fn next(&mut self) -> Token<'a>
         ensures taken { ahead self.old ≡ lexeme result ∷ onward (lexeme result) (ahead self.new) }
         ensures same { self.new.tables ≡ self.old.tables }

@@ -48,6 +48,7 @@ impl Refusal {
     }
 }
 
+// The conversions are written out, since a derived one has no contract, and the definitions say which case each makes.
 impl From<TextRefusal> for Refusal {
     ghost from_gives = { λ e r. r ≡ Text e };
 

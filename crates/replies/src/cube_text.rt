@@ -26,6 +26,7 @@ fn letter(cube: Cube, input: usize) -> char
     }
 }
 
+// Writes the letter of each input in turn.
 fn write_levels<W: fmt::Write>(cube: Cube, inputs: usize, f: &mut fmt::Formatter<W>) -> fmt::Result
     ensures { WritesOnOk W.Write.write_str_gives f.old result (levels cube.driven cube.level 0 inputs) f.new }
 {

@@ -30,7 +30,8 @@ impl Session {
     fn enter(&mut self, place: usize, fault: StuckAt) -> Result<Reply, Refusal>
         ensures { MatchResult result (λ reply. (next : ℕ) → replied reply next (session_model self.new) ≡ entered_answer (session_model self.old) place next (enter_fault (session_model self.old).folder fault.line fault.pin fault.level)) (λ e. (e ≡ Memory) × (session_model self.new ≡ session_model self.old) × (is_ok (enter_fault (session_model self.old).folder fault.line fault.pin fault.level) ≡ true)) }
     {
-        // a fault job is read only once a kind was chosen
+        // A fault job is read only once a kind was chosen, so the other kind is never taken; to say so in a type, a session
+        // would need a second struct, and each job a place in one of them.
         let kind = self.kind.unwrap_or(Kind::Nine);
         match enter(&mut self.folder, kind, fault) {
             Ok(number) => Ok(Reply::Entered { number }),
@@ -64,7 +65,8 @@ impl Session {
         })
     }
 
-    // Answers the job line that begins at that place of the text; nothing where only spaces are left.
+    // Answers the job line that begins at that place of the text; nothing where only spaces are left. (Text and place are two
+    // parameters: the text is one and the same for all lines, and the place comes back in each answer.)
     pub fn answer(
         &mut self,
         heap: Global,

@@ -37,6 +37,6 @@ pub fn enter(folder: &mut Folder, kind: Kind, fault: StuckAt) -> Result<usize, R
 {
     match enter_under(folder, kind, fault)? {
         Outcome::Entered { number } => Ok(number),
-        Outcome::Searched { .. } | Outcome::Covered { .. } => unreachable(),
+        Outcome::Searched { .. } | Outcome::Covered { .. } => unreachable!(),
     }
 }

@@ -19,10 +19,10 @@ impl fmt::Display for Verdict {
     ghost output = { λ v. Some (verdict_word v) };
 
     fn fmt<W: fmt::Write>(&self, f: &mut fmt::Formatter<W>) -> fmt::Result {
-        match self {
-            Verdict::Shows => f.write_str("shows"),
-            Verdict::Still => f.write_str("still"),
-            Verdict::Unsure => f.write_str("unsure"),
-        }
+        f.write_str(match self {
+            Verdict::Shows => "shows",
+            Verdict::Still => "still",
+            Verdict::Unsure => "unsure",
+        })
     }
 }

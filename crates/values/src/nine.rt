@@ -8,6 +8,8 @@ ghost use Rattle.std.proofs.Common.{rules};
 use crate::half::Half;
 use crate::kind::ValueKind;
 
+// Each function works half by half. (A function over the four of them would take each as a closure with a contract, and say no
+// more than these lines.)
 #[derive(Clone, Copy, Debug, PartialEq, Eq)]
 pub struct Nine {
     pub(crate) good: Half,

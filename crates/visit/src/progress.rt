@@ -20,6 +20,7 @@ pub struct Progress {
 pub struct BudgetSpent;
 
 impl Progress {
+    // Nothing was tried yet.
     pub fn new() -> Progress
         ensures { going_on result ≡ at_start }
     {

@@ -61,7 +61,7 @@ impl Setting<'_> {
     {
         match simulate(self.circuit, cube, self.socket, row) {
             Ok(verdict) => verdict,
-            Err(_) => unreachable(),
+            Err(_) => unreachable!(),
         }
     }
 

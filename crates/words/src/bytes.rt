@@ -14,6 +14,7 @@ pub enum ByteClass {
     Forbidden,
 }
 
+// The class of a byte.
 pub fn class_of(byte: u8) -> ByteClass
     ensures { result ≡ class byte }
 {
@@ -27,6 +28,7 @@ pub fn class_of(byte: u8) -> ByteClass
     }
 }
 
+// Whether a byte is of that class.
 pub fn is_of(byte: u8, class: ByteClass) -> bool
     ensures { result ≡ is_of class byte }
 {

@@ -1,0 +1,76 @@
+// How entries come to be, and what a caller can ask of one.
+ghost use Rattle.std.specs.Prelude.{◌≡◌, ◌≤◌};
+ghost use Rattle.std.specs.Option.{option_map};
+ghost use Rattle.faults.specs.Cubes.{cube_model};
+ghost use Rattle.folder.specs.Tries.{tries};
+ghost use Rattle.folder.specs.Entries.{state_model, new_entry, state_cube, state_count, state_settled};
+
+use crate::entry::Entry;
+use crate::state::State;
+use faults::{Cube, Fault};
+
+impl Entry {
+    // An open entry of that fault.
+    pub(crate) fn new(fault: Fault) -> Entry
+        ensures { result ≡ new_entry fault }
+    {
+        Entry {
+            fault,
+            state: State::Open,
+        }
+    }
+
+    // The entry in another state.
+    pub(crate) fn in_state(self, state: State) -> Entry
+        requires { tries state ≤ 1000000 }
+        ensures fault { result.fault ≡ self.fault }
+        ensures state { result.state ≡ state }
+    {
+        Entry {
+            fault: self.fault,
+            state,
+        }
+    }
+
+    pub fn fault(&self) -> Fault
+        ensures { result ≡ self.now.fault }
+    {
+        self.fault
+    }
+
+    pub fn state(&self) -> State
+        ensures { result ≡ self.now.state }
+    {
+        self.state
+    }
+
+    // The cube that the state holds, if it holds one.
+    pub fn cube(&self) -> Option<Cube>
+        ensures { option_map cube_model result ≡ state_cube (state_model self.now.state) }
+    {
+        match self.state {
+            State::Spent { cube, .. } => cube,
+            State::Fewest { cube, .. } => Some(cube),
+            State::Open | State::Redundant { .. } | State::Covered { .. } => None,
+        }
+    }
+
+    // The tries made, or the number of the entry that covers this one; 0 of an open entry.
+    pub fn count(&self) -> usize
+        ensures { result ≡ state_count (state_model self.now.state) }
+    {
+        match self.state {
+            State::Open => 0,
+            State::Spent { tries, .. } | State::Fewest { tries, .. } | State::Redundant { tries } =>
+                tries,
+            State::Covered { by } => by,
+        }
+    }
+
+    // Whether nothing is left to do: fewest, redundant or covered.
+    pub fn is_settled(&self) -> bool
+        ensures { result ≡ state_settled (state_model self.now.state) }
+    {
+        !matches!(self.state, State::Open | State::Spent { .. })
+    }
+}
