@@ -6,8 +6,8 @@ use std::alloc::{AllocError, Global};
 use std::{fmt, str};
 use words::{PlacedWord, is_name};
 
-// Its bytes are no String, since `become_a` may take no memory: no method of a String writes over a byte in place, and `push`
-// can lack memory.
+// Its bytes are no String: that would only move the one look at whether they are text from the writing of a name to its making,
+// and `become_a`, which may take no memory, would push where it writes over a byte.
 #[derive(Drop)]
 pub struct Name {
     bytes: Vec<u8>,

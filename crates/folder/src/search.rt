@@ -49,10 +49,9 @@ impl Folder {
         self.entries[number] = entry;
     }
 
-    // (Socket and row are two things of the caller's, each with what becomes of it in a clause: a struct of both would be taken
-    // apart in each call.)
     // Searches for a test that drives the fewest inputs, for the fault of the entry of that number, in at most so many
-    // tries, and files the answer in the entry. The row must have room for each line of the circuit.
+    // tries, and files the answer in the entry. The row must have room for each line of the circuit. (Socket and row are two
+    // things of the caller's, each with what becomes of it in a clause: a struct of both would be taken apart in each call.)
     pub fn search<V: ValueKind>(
         &mut self,
         number: usize,
