@@ -1,6 +1,7 @@
 -- The loop that marks covered entries.
-use Rattle.std.proofs.Common.{◌≡◌, ℕ, ◌+◌, ◌<◌, ◌≤◌, Bool, true, false, cond, List, [], ◌∷◌, ◌++◌, map, length, get_or, take, drop, set, sym, refl, ap, ◌∙◌, add-zero, add_assoc, zero-add, arith}
+use Rattle.std.proofs.Common.{◌≡◌, ℕ, ◌+◌, ◌<◌, ◌≤◌, Bool, true, false, cond, List, [], ◌∷◌, ◌++◌, map, length, get_or, take, drop, set, sym, ap, ◌∙◌, add-zero, add_assoc, zero-add, arith}
 use Rattle.std.proofs.lemmas.List.{length-set, length-map, length-take-le, map_push, take_all, take_more, take_more_set, drop-set-lt, drop-drop, get_or-drop}
+use Rattle.std.proofs.lemmas.Simd.{map-map}
 use Rattle.values.specs.Kind.{Kind}
 use Rattle.circuit.specs.Model.{Circuit}
 use Rattle.faults.specs.Cubes.{Cube}
@@ -77,9 +78,5 @@ module _ (K : Kind) (c : Circuit) (number : ℕ) (q : Cube) (before : List code.
         ap (map entry_model) (sym (take_all i now h))
             ∙ m.front
             ∙ ap (map (λ (e : code.Entry). marked K c number q (entry_model e))) all
-            ∙ map_map before,
+            ∙ sym (map-map (marked K c number q) entry_model before),
       )
-    where
-      map_map : (xs : List code.Entry) → map (λ (e : code.Entry). marked K c number q (entry_model e)) xs ≡ map (marked K c number q) (map entry_model xs)
-      map_map [] = refl
-      map_map (x ∷ xs) = ap (λ (ys : List Entry). marked K c number q (entry_model x) ∷ ys) (map_map xs)

@@ -1,4 +1,5 @@
-// What is known of a fault.
+// What is known of a fault. (The answers of a visit are cases of their own here: an entry has one of five states, each with a name
+// that a listing writes.)
 ghost use Rattle.std.specs.Prelude.{◌≡◌, Some};
 ghost use Rattle.visit.specs.Visits.{answer_model};
 ghost use Rattle.folder.specs.Entries.{state_model, state_word};

@@ -13,6 +13,7 @@ use Rattle.folder.specs.Transitions.{Granted, granted, and_then, entered, found_
 use Rattle.folder.specs.Searching.{budget_in_range, search_allowed}
 use Rattle.folder.specs.Covering.{fewest_cube}
 use Rattle.law.specs.Histories.{Outcome, answered_as}
+use Rattle.law.proofs.Places.{zero_not_one}
 
 -- a refusal is no grant
 pub no_grant : {A E : Type 0} (e : E) (a : A) → ◌≡◌ {A = Result A E} (Err e) (Ok a) → ⊥
@@ -46,7 +47,7 @@ entered_granted table (Ok f) g h = (f, go (has_fault table f) (leb 512 (length t
     go false false h = ap (λ (x : Granted ℕ). x.table) (sym (ok_same (granted (length table) (table ++ (opened f ∷ []))) g h))
 
 pub found_granted : (o : Option Entry) (e : Entry) → found_entry o ≡ Ok e → o ≡ Some e
-found_granted None e h = absurd (let z : ◌≡◌ {A = ℕ} 0 1 = cc in omega arith)
+found_granted None e h = absurd (zero_not_one cc)
 found_granted (Some x) e h = ap Some (ok_same x e h)
 
 -- an entry that may be searched is not settled
@@ -65,8 +66,8 @@ answered_is K c f budget places a h = go (ltb places (line_count c)) h
     go false h = ok_same (answer K c f budget) a h
 
 pub fewest_state : (s : State) (q : Cube) → fewest_cube s ≡ Ok q → (tries : ℕ) × (s ≡ Fewest q tries)
-fewest_state Open q h = absurd (let z : ◌≡◌ {A = ℕ} 0 1 = cc in omega arith)
-fewest_state (Spent cube tries) q h = absurd (let z : ◌≡◌ {A = ℕ} 0 1 = cc in omega arith)
+fewest_state Open q h = absurd (zero_not_one cc)
+fewest_state (Spent cube tries) q h = absurd (zero_not_one cc)
 fewest_state (Fewest cube tries) q h = (tries, ap (λ (x : Cube). Fewest x tries) (ok_same cube q h))
-fewest_state (Redundant tries) q h = absurd (let z : ◌≡◌ {A = ℕ} 0 1 = cc in omega arith)
-fewest_state (Covered by) q h = absurd (let z : ◌≡◌ {A = ℕ} 0 1 = cc in omega arith)
+fewest_state (Redundant tries) q h = absurd (zero_not_one cc)
+fewest_state (Covered by) q h = absurd (zero_not_one cc)

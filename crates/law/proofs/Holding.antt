@@ -1,5 +1,6 @@
 -- The law holds after every history.
-use Rattle.std.proofs.Common.{◌≡◌, ℕ, Bool, true, false, ◌&&◌, List, ◌∷◌, Some, None, Ok, Err, Result, sym, refl, ap, ◌∙◌, subst, true≢false, arith}
+use Rattle.std.proofs.Math.Bool.{and-false}
+use Rattle.std.proofs.Common.{◌≡◌, ℕ, Bool, ◌&&◌, List, ◌∷◌, Some, None, Ok, Err, Result, sym, refl, ap, ◌∙◌, subst, true≢false}
 use mathlib.Core.Bool.{false≢true}
 use Rattle.std.proofs.lemmas.Bool.{eq-eqb, ne_eqb}
 use Rattle.std.specs.List.{slice_get}
@@ -28,6 +29,7 @@ use Rattle.law.specs.Histories.{Event, Outcome, Entered, Searched, defined, Step
 use Rattle.law.specs.Sound.{is_unspent_outcome, searches, SearchedUnspent, IsRedundant, Sound}
 use Rattle.law.proofs.Granting.{ok_same, both_granted, named_granted, entered_granted, found_granted, allowed_unsettled, answered_is, fewest_state}
 use Rattle.law.proofs.Keeping.{Known, Kept, kept_first, kept_same, kept_entered, kept_filed, kept_covered}
+use Rattle.law.proofs.Places.{zero_not_one}
 
 module _ (K : Kind) (M : Pairs → Type 0) (l : Lawful K M) (c : Circuit) where
   abbrev event : Call → ℕ → Result Outcome Refusal → Event
@@ -35,10 +37,6 @@ module _ (K : Kind) (M : Pairs → Type 0) (l : Lawful K M) (c : Circuit) where
 
   abbrev folder : List Entry → Folder
   folder table = record { circuit = c; table = table }
-
-  and_false : (b : Bool) → (b && false) ≡ false
-  and_false true = refl
-  and_false false = refl
 
   module _ (history : List Event) (before after : List Entry) (k : Kept K c history before) (places : ℕ) where
     entered_keeps : (asked : StuckAt) (o : Outcome) → defined K (folder before) (Enter asked) places ≡ Ok (granted o after)
@@ -85,7 +83,7 @@ module _ (K : Kind) (M : Pairs → Type 0) (l : Lawful K M) (c : Circuit) where
     refused_keeps : (call : Call) (e : Refusal) → after ≡ before → Kept K c (event call places (Err e) ∷ history) after
     refused_keeps call e same =
         subst (λ (t : List Entry). Kept K c (event call places (Err e) ∷ history) t) (sym same)
-        (kept_same K c history (event call places (Err e)) before k (λ n. and_false (searches n call)))
+        (kept_same K c history (event call places (Err e)) before k (λ n. and-false (searches n call)))
 
     step_keeps : (call : Call) (r : Result Outcome Refusal) → Follows (defined K (folder before) call places) before r after → Kept K c (event call places r ∷ history) after
     step_keeps call (Ok o) h = granted_keeps call o h
@@ -103,12 +101,12 @@ module _ (K : Kind) (M : Pairs → Type 0) (l : Lawful K M) (c : Circuit) where
   -- what a kept table says, in the words of the law
 
   cube_known : (history : List Event) (table : List Entry) (n : ℕ) (f : Fault) (s : State) → Known K c history table n f s → (q : Cube) → state_cube s ≡ Some q → Test c f q
-  cube_known history table n f Open k q e = absurd (let z : ◌≡◌ {A = ℕ} 0 1 = cc in omega arith)
-  cube_known history table n f (Spent None tries) k q e = absurd (let z : ◌≡◌ {A = ℕ} 0 1 = cc in omega arith)
+  cube_known history table n f Open k q e = absurd (zero_not_one cc)
+  cube_known history table n f (Spent None tries) k q e = absurd (zero_not_one cc)
   cube_known history table n f (Spent (Some p) tries) k q e = let same : p ≡ q = cc in subst (λ (x : Cube). Test c f x) same k.1
   cube_known history table n f (Fewest p tries) k q e = let same : p ≡ q = cc in subst (λ (x : Cube). Test c f x) same k.0
-  cube_known history table n f (Redundant tries) k q e = absurd (let z : ◌≡◌ {A = ℕ} 0 1 = cc in omega arith)
-  cube_known history table n f (Covered m) k q e = absurd (let z : ◌≡◌ {A = ℕ} 0 1 = cc in omega arith)
+  cube_known history table n f (Redundant tries) k q e = absurd (zero_not_one cc)
+  cube_known history table n f (Covered m) k q e = absurd (zero_not_one cc)
 
   -- a fault with a test is detected by some vector
   test_detects : (f : Fault) (q : Cube) → Test c f q → Undetectable c f → ⊥

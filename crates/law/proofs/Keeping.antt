@@ -2,6 +2,7 @@
 use Rattle.std.proofs.Common.{◌≡◌, ℕ, ◌≤◌, Bool, true, false, cond, not, ◌&&◌, ◌||◌, ◌⊎◌, List, [], ◌∷◌, ◌++◌, map, length, set, Some, None, sym, refl, ap, ◌∙◌, subst, inl, inr, true≢false, arith}
 use Rattle.std.proofs.lemmas.List.{length-set, length-map, length_push}
 use Rattle.std.proofs.lemmas.Bool.{cases_eq, and_parts, not-true}
+use Rattle.std.proofs.lemmas.Option.{slice_get_within}
 use Rattle.std.specs.List.{slice_get, list_any}
 use Rattle.values.specs.Pairs.{Pairs}
 use Rattle.values.specs.Kind.{Kind, Lawful}
@@ -17,7 +18,7 @@ use Rattle.folder.specs.Searching.{filed}
 use Rattle.folder.specs.Covering.{is_covered, marked}
 use Rattle.law.specs.Histories.{Event}
 use Rattle.law.specs.Sound.{is_unspent, is_unspent_search, SearchedUnspent}
-use Rattle.law.proofs.Places.{nth_inside, nth_push_old, nth_push_new, nth_set_same, nth_set_other, nth_map_from, nth_map_to}
+use Rattle.law.proofs.Places.{zero_not_one, nth_push_old, nth_push_new, nth_set_same, nth_set_other, nth_map_from, nth_map_to}
 
 module _ (K : Kind) (c : Circuit) where
   -- no granted search of that entry was unspent
@@ -42,7 +43,7 @@ module _ (K : Kind) (c : Circuit) where
     pub past : (n : ℕ) → length table ≤ n → Unsearched history n
 
   pub kept_first : Kept [] []
-  kept_first = record { entries = λ n e h. absurd (let z : ◌≡◌ {A = ℕ} 0 1 = cc in omega arith); past = λ n h. refl }
+  kept_first = record { entries = λ n e h. absurd (zero_not_one cc); past = λ n h. refl }
 
   -- an entry that is not settled was not searched to the end
   unsettled_unsearched : (history : List Event) (table : List Entry) (n : ℕ) (f : Fault) (s : State) → state_settled s ≡ false → Known history table n f s → Unsearched history n
@@ -139,7 +140,7 @@ module _ (K : Kind) (c : Circuit) where
           entries = λ n e h. known_set n e h (cases_eq n number);
           past = λ n h.
               let far : length table ≤ n = omega (arith, length-set table number new) in
-              let near = nth_inside table number x found in
+              let near = slice_get_within table number x found in
               idle_same n (others n (λ e. omega arith)) ∙ k.past n far;
         }
 

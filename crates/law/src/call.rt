@@ -1,4 +1,5 @@
-// The calls that change a folder, and what they answer where they are granted.
+// The calls that change a folder, and what they answer where they are granted. They are values, and not methods alone, since the
+// law speaks of histories of calls.
 use faults::StuckAt;
 use visit::Answer;
 

@@ -3,6 +3,7 @@ use Rattle.std.proofs.Common.{◌≡◌, ℕ, ◌+◌, ◌-◌, ◌≤◌, min, 
 use Rattle.std.specs.List.{prefix_len, position}
 use Rattle.std.proofs.lemmas.List.{length-drop, take_all}
 use Rattle.std.proofs.lemmas.Bool.{ltb-true, ltb-false}
+use Rattle.law.proofs.Places.{zero_not_one}
 use Rattle.session.specs.Sessions.{is_no_feed, line_after}
 
 module _ (text : List ℕ) (place start : ℕ) (first : start ≡ min place (length text)) where
@@ -35,13 +36,13 @@ module _ (text : List ℕ) (place start : ℕ) (first : start ≡ min place (len
           let short = ltb-true before (length (drop start text)) h in
           let room : place ≤ length text = omega (arith, short, rest_long, first) in
           omega (arith, is, short, rest_long, first, same_before room)
-      go false h f = absurd (let z : ◌≡◌ {A = ℕ} 0 1 = cc in omega arith)
+      go false h f = absurd (zero_not_one cc)
 
   pub feed_missing : None ≡ feed inside → length text ≡ line_after text place
   feed_missing e = go inside refl e
     where
       go : (b : Bool) → inside ≡ b → None ≡ feed b → length text ≡ line_after text place
-      go true h f = absurd (let z : ◌≡◌ {A = ℕ} 0 1 = cc in omega arith)
+      go true h f = absurd (zero_not_one cc)
       go false h f =
           let long = ltb-false before (length (drop start text)) h in
           by_place (ltb (length text) place) refl long
