@@ -1,10 +1,11 @@
 // The visit: depth first, inputs in rising order, 0 before 1.
-ghost use Rattle.std.specs.Prelude.{◌≡◌, ◌+◌, ◌-◌, ◌≤◌, false, length, if◌then◌else◌, None, MatchResult};
+ghost use Rattle.std.specs.Prelude.{◌≡◌, ◌+◌, ◌-◌, ◌≤◌, false, length, if◌then◌else◌};
 ghost use Rattle.circuit.specs.Circuits.{circuit_model};
 ghost use Rattle.circuit.specs.Model.{line_count};
 ghost use Rattle.faults.specs.Cubes.{cube_model, nothing_driven};
 ghost use Rattle.simulator.specs.Detection.{verdict};
 ghost use Rattle.simulator.specs.Simulation.{drives_beyond};
+ghost use Rattle.simulator.specs.Callers.{RowKept, SocketEmptied};
 ghost use Rattle.visit.specs.Visiting.{drive, met, below};
 ghost use Rattle.visit.specs.Visits.{going_on, left, Visits};
 
@@ -125,8 +126,8 @@ pub fn visit<V: ValueKind>(
     row: &mut [V],
 ) -> Result<Answer, FolderRefusal>
     ensures visits { Visits V.ValueKind.kind (circuit_model circuit.now) fault budget (length row.old) result }
-    ensures socket { MatchResult result (λ _. socket.new.fault ≡ None) (λ _. socket.new ≡ socket.old) }
-    ensures row { MatchResult result (λ _. length row.new ≡ length row.old) (λ _. row.new ≡ row.old) }
+    ensures socket { SocketEmptied result socket.old socket.new }
+    ensures row { RowKept result row.old row.new }
 {
     if row.len() < circuit.line_count() {
         return Err(FolderRefusal::RowTooShort);
