@@ -7,7 +7,7 @@ ghost use Rattle.circuit.specs.Circuits.{circuit_model};
 ghost use Rattle.faults.specs.Cubes.{cube_model};
 ghost use Rattle.simulator.specs.Lines.{inputs_row, gate_value, gates_after};
 ghost use Rattle.simulator.specs.Detection.{input_value, set_of, judged};
-ghost use Rattle.simulator.specs.Simulation.{drives_beyond, DrivesBeyond, Simulates};
+ghost use Rattle.simulator.specs.Simulation.{drives_beyond, DrivesBeyond, row_allowed, simulation_allowed, Simulates};
 ghost use Rattle.simulator.specs.Laws.{Telling};
 
 use crate::gates::{at_pin, gate_value};
@@ -81,6 +81,26 @@ pub fn drives_beyond(circuit: &Circuit, cube: Cube) -> bool
     past.unwrap_or(0) > 0
 }
 
+// Whether a row of so many places has room for each line of the circuit.
+pub fn allow_row(circuit: &Circuit, places: usize) -> Result<(), FolderRefusal>
+    ensures { result ≡ row_allowed (circuit_model circuit.now) places }
+{
+    if places < circuit.line_count() {
+        return Err(FolderRefusal::RowTooShort);
+    }
+    Ok(())
+}
+
+// Whether a cube can be simulated in a row of so many places.
+pub fn allow_simulation(circuit: &Circuit, cube: Cube, places: usize) -> Result<(), FolderRefusal>
+    ensures { result ≡ simulation_allowed (circuit_model circuit.now) (cube_model cube) places }
+{
+    if drives_beyond(circuit, cube) {
+        return Err(FolderRefusal::InputMissing);
+    }
+    allow_row(circuit, places)
+}
+
 // Works out each line's value under the cube, with the fault in the socket if there is one, and gives the verdict on the
 // outputs. The values stand at the front of the row, line by line. The rest of the row is unchanged, and all of it if the
 // call is refused.
@@ -92,14 +112,8 @@ pub fn simulate<V: ValueKind>(
 ) -> Result<Verdict, FolderRefusal>
     ensures { Simulates V.ValueKind.kind V.ValueKind.meaning (circuit_model circuit.now) socket.now.fault (cube_model cube) row.old row.new result }
 {
-    if drives_beyond(circuit, cube) {
-        return Err(FolderRefusal::InputMissing);
-    }
-    let lines = circuit.line_count();
-    if row.len() < lines {
-        return Err(FolderRefusal::RowTooShort);
-    }
-    let row = &mut row[..lines];
+    allow_simulation(circuit, cube, row.len())?;
+    let row = &mut row[..circuit.line_count()];
     let inputs = circuit.input_count();
     drive(cube, socket.fault, &mut row[..inputs]);
     settle(inputs, circuit.gates(), socket.fault, row);

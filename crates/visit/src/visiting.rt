@@ -15,7 +15,7 @@ use crate::progress::{BudgetSpent, Progress};
 use circuit::Circuit;
 use faults::{Cube, Fault};
 use refusals::FolderRefusal;
-use simulator::{Socket, Verdict, simulate};
+use simulator::{Socket, Verdict, allow_row, simulate};
 use values::kind::ValueKind;
 
 impl Branch {
@@ -129,9 +129,7 @@ pub fn visit<V: ValueKind>(
     ensures socket { SocketEmptied result socket.old socket.new }
     ensures row { RowKept result row.old row.new }
 {
-    if row.len() < circuit.line_count() {
-        return Err(FolderRefusal::RowTooShort);
-    }
+    allow_row(circuit, row.len())?;
     let mut progress = Progress::new();
     let plug = socket.plug(fault);
     let setting = Setting {

@@ -1,6 +1,8 @@
-use Rattle.std.proofs.Common.{◌≡◌, ◌++◌, map, length, take, drop, Ok, sym, ap, ◌∙◌, subst, arith}
+use Rattle.std.proofs.Common.{◌≡◌, ◌++◌, map, length, take, drop, Ok, sym, refl, ap, ◌∙◌, subst, arith}
 use Rattle.std.proofs.lemmas.Grind.{common_steps}
 use Rattle.std.proofs.lemmas.Slice.{drop-append-drop}
+use Rattle.std.specs.Result.{result_map_both}
+use Rattle.refusals.specs.declared.layers.FolderRefusal.{FolderRefusal}
 use Rattle.circuit.specs.Circuits.{circuit_model}
 use Rattle.circuit.specs.Model.{line_count}
 use Rattle.faults.specs.Cubes.{cube_model}
@@ -22,7 +24,7 @@ returns g c =
     let q = cube_model c.args.cube in
     let before = c.args.row.now in
     let inputs = c.input_count-inputs.result in
-    let lines = c.line_count-lines.result in
+    let lines = c.line_count.result in
     let driven = c.drive.new.row in
     let worked = c.settle.new.row in
     let first : length (take inputs (take lines before)) ≡ inputs = grind (arith, common_steps) in
@@ -30,8 +32,9 @@ returns g c =
     let whole : take (line_count model) (worked ++ drop lines before) ≡ worked = grind (arith, common_steps) in
     let rest : drop (line_count model) (worked ++ drop lines before) ≡ drop (line_count model) before = grind (arith, common_steps, drop-append-drop) in
     let sets : map v.meaning worked ≡ simulated v.kind model f q = cc in
-    let is : c.judge.result ≡ verdict v.kind model f q = cc in
-    let answer : Ok c.judge.result ≡ simulation v.kind model f q (length before) = grind (arith, common_steps) in
+    let is : c.judge.result ≡ verdict v.kind model f q = c.judge.ensures ∙ rw (sets, c.outputs.ensures.value) refl in
+    let answer : Ok c.judge.result ≡ simulation v.kind model f q (length before) =
+    ap Ok is ∙ ap (result_map_both (λ _. verdict v.kind model f q) (λ (e : FolderRefusal). e)) c.in_ok-allow_simulation.ensures in
     record {
       answer = answer;
       row = record { front = ap (map v.meaning) whole ∙ sets; rest = rest };

@@ -1,4 +1,4 @@
-use Rattle.std.proofs.Common.{length, ap, ◌∙◌, arith}
+use Rattle.std.proofs.Common.{length, ap, ◌∙◌}
 use Rattle.circuit.specs.Circuits.{circuit_model}
 use Rattle.faults.specs.Cubes.{cube_model}
 use Rattle.simulator.specs.declared.socket.Socket.{Socket}
@@ -11,7 +11,7 @@ returns-clause-visits g c =
     let v = g.V.ValueKind in
     let model = circuit_model c.args.circuit.now in
     let places = length c.args.row.now in
-    visits v.kind v.family g.met.V.ValueKind.lawful model c.args.fault c.args.budget places c.answer.result (omega (arith, c.line_count.ensures))
+    visits v.kind v.family g.met.V.ValueKind.lawful model c.args.fault c.args.budget places c.answer.result c.in_ok-allow_row.ensures
     (visit_is v.kind v.family g.met.V.ValueKind.lawful model c.args.fault c.args.budget places
     c.socket.result.now.fault (cube_model c.whole.result.cube) c.whole.result.next (going_on c.new-progress.result) (left c.meet-end.new.progress c.meet-end.result) c.answer.result
     (ap (λ (s : Socket). s.fault) c.socket.ensures ∙ c.plug-plug.ensures.holds) c.whole.ensures.cube c.whole.ensures.next c.new-progress.ensures c.meet-end.ensures c.answer.ensures)
