@@ -1,12 +1,10 @@
 -- What a call that visits gives.
 use Rattle.std.specs.Prelude.{◌≡◌, ℕ, ◌≤◌, false, is_err, IfOk, Result}
-use Rattle.std.specs.Option as options
 use Rattle.std.specs.Result.{result_map_both}
 use Rattle.refusals.specs.declared.layers.FolderRefusal.{FolderRefusal}
 use Rattle.values.specs.Kind.{Kind}
 use Rattle.circuit.specs.Model.{Circuit}
 use Rattle.faults.specs.declared.fault.Fault.{Fault}
-use Rattle.faults.specs.Cubes.{cube_model}
 use Rattle.simulator.specs.Simulation.{row_allowed}
 use Rattle.visit.specs.declared.answer.Answer as code
 use Rattle.visit.specs.declared.answer.Answer.TheVariants as code_answer
@@ -17,16 +15,16 @@ use Rattle.visit.specs.Meaning.{Means}
 
 -- how far a visit has come that goes on
 abbrev pub going_on : code_progress.Progress → Progress
-going_on p = record { best = options.option_map cube_model p.best; tries = p.tries; spent = false }
+going_on p = record { best = p.best; tries = p.tries; spent = false }
 
 -- how far a visit had come that ended: given up for want of a try, or at its end
 abbrev pub left : code_progress.Progress → Result (Unit {0}) BudgetSpent → Progress
-left p r = record { best = options.option_map cube_model p.best; tries = p.tries; spent = is_err r }
+left p r = record { best = p.best; tries = p.tries; spent = is_err r }
 
 abbrev pub answer_model : code.Answer → Answer
-answer_model (code_answer.Fewest cube tries) = Fewest (cube_model cube) tries
+answer_model (code_answer.Fewest cube tries) = Fewest cube tries
 answer_model (code_answer.Redundant tries) = Redundant tries
-answer_model (code_answer.Spent best tries) = Spent (options.option_map cube_model best) tries
+answer_model (code_answer.Spent best tries) = Spent best tries
 
 -- the answer for a fault, worked out in a row of so many places, where that has room for each line
 abbrev pub answer_in : Kind → Circuit → Fault → ℕ → ℕ → Result Answer FolderRefusal

@@ -9,4 +9,5 @@ pub struct Branch {
     pub cube: Cube,
     pub next: usize,
     ghost lower: { cube.driven < 2 ^ next },
+    ghost level_lower: { cube.level < 2 ^ next },
 }

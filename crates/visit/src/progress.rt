@@ -1,7 +1,6 @@
 // How far a visit has come.
 ghost use Rattle.std.specs.Prelude.{◌≡◌};
 ghost use Rattle.std.specs.Option.{option_map};
-ghost use Rattle.faults.specs.Cubes.{cube_model};
 ghost use Rattle.visit.specs.Visiting.{fewer, at_start, progress_answer};
 ghost use Rattle.visit.specs.Visits.{going_on, left, answer_model};
 
@@ -32,7 +31,7 @@ impl Progress {
 
     // Whether a cube drives fewer inputs than the best, or there is no best.
     pub fn lacks(&self, cube: Cube) -> bool
-        ensures { result ≡ fewer (cube_model cube) (option_map cube_model self.now.best) }
+        ensures { result ≡ fewer cube self.now.best }
     {
         match self.best {
             Some(best) => cube.driven().count_ones() < best.driven().count_ones(),

@@ -1,8 +1,7 @@
 // The visit: depth first, inputs in rising order, 0 before 1.
 ghost use Rattle.std.specs.Prelude.{◌≡◌, ◌+◌, ◌-◌, ◌≤◌, false, length, if◌then◌else◌};
-ghost use Rattle.circuit.specs.Circuits.{circuit_model};
 ghost use Rattle.circuit.specs.Model.{line_count};
-ghost use Rattle.faults.specs.Cubes.{cube_model, nothing_driven};
+ghost use Rattle.faults.specs.Cubes.{nothing_driven};
 ghost use Rattle.simulator.specs.Detection.{verdict};
 ghost use Rattle.simulator.specs.Simulation.{drives_beyond};
 ghost use Rattle.simulator.specs.Callers.{RowKept, SocketEmptied};
@@ -21,7 +20,7 @@ use values::kind::ValueKind;
 impl Branch {
     // All cubes: the one with nothing driven, and those below it.
     fn whole() -> Branch
-        ensures cube { cube_model result.cube ≡ nothing_driven }
+        ensures cube { result.cube ≡ nothing_driven }
         ensures next { result.next ≡ 0 }
     {
         Branch {
@@ -31,10 +30,10 @@ impl Branch {
     }
 
     // The branch with that input driven too, which is above each input that is driven already.
-    fn driving(self, input: usize, level: bool) -> Branch
-        requires above { self.next ≤ input }
+    fn driving(&self, input: usize, level: bool) -> Branch
+        requires above { self.now.next ≤ input }
         requires room { input ≤ 63 }
-        ensures cube { cube_model result.cube ≡ drive (cube_model self.cube) input (if level then 1 else 0) }
+        ensures cube { result.cube ≡ drive self.now.cube input (if level then 1 else 0) }
         ensures next { result.next ≡ input + 1 }
     {
         Branch {
@@ -56,9 +55,9 @@ struct Setting<'a> {
 impl Setting<'_> {
     // The verdict on a cube of the circuit's inputs, in a row with room for each line.
     fn verdict_on<V: ValueKind>(&self, cube: Cube, row: &mut [V]) -> Verdict
-        requires inside { drives_beyond (circuit_model self.now.circuit.now) (cube_model cube) ≡ false }
-        requires room { line_count (circuit_model self.now.circuit.now) ≤ length row.old }
-        ensures { result ≡ verdict V.ValueKind.kind (circuit_model self.now.circuit.now) self.now.socket.now.fault (cube_model cube) }
+        requires inside { drives_beyond self.now.circuit.now cube ≡ false }
+        requires room { line_count self.now.circuit.now ≤ length row.old }
+        ensures { result ≡ verdict V.ValueKind.kind self.now.circuit.now self.now.socket.now.fault cube }
     {
         match simulate(self.circuit, cube, self.socket, row) {
             Ok(verdict) => verdict,
@@ -74,9 +73,9 @@ impl Setting<'_> {
         progress: &mut Progress,
         row: &mut [V],
     ) -> Result<(), BudgetSpent>
-        requires room { line_count (circuit_model self.now.circuit.now) ≤ length row.old }
-        requires inside { branch.next ≤ length (circuit_model self.now.circuit.now).inputs }
-        ensures { left progress.new result ≡ met (verdict V.ValueKind.kind (circuit_model self.now.circuit.now) self.now.socket.now.fault) self.now.budget (below (verdict V.ValueKind.kind (circuit_model self.now.circuit.now) self.now.socket.now.fault) self.now.budget (length (circuit_model self.now.circuit.now).inputs) (length (circuit_model self.now.circuit.now).inputs - branch.next)) (cube_model branch.cube) (going_on progress.old) }
+        requires room { line_count self.now.circuit.now ≤ length row.old }
+        requires inside { branch.next ≤ length self.now.circuit.now.inputs }
+        ensures { left progress.new result ≡ met (verdict V.ValueKind.kind self.now.circuit.now self.now.socket.now.fault) self.now.budget (below (verdict V.ValueKind.kind self.now.circuit.now self.now.socket.now.fault) self.now.budget (length self.now.circuit.now.inputs) (length self.now.circuit.now.inputs - branch.next)) branch.cube (going_on progress.old) }
     {
         if !progress.lacks(branch.cube) {
             return Ok(());
@@ -103,9 +102,9 @@ impl Setting<'_> {
         progress: &mut Progress,
         row: &mut [V],
     ) -> Result<(), BudgetSpent>
-        requires room { line_count (circuit_model self.now.circuit.now) ≤ length row.old }
-        requires inside { branch.next ≤ length (circuit_model self.now.circuit.now).inputs }
-        ensures { left progress.new result ≡ below (verdict V.ValueKind.kind (circuit_model self.now.circuit.now) self.now.socket.now.fault) self.now.budget (length (circuit_model self.now.circuit.now).inputs) (length (circuit_model self.now.circuit.now).inputs - branch.next) (cube_model branch.cube) (going_on progress.old) }
+        requires room { line_count self.now.circuit.now ≤ length row.old }
+        requires inside { branch.next ≤ length self.now.circuit.now.inputs }
+        ensures { left progress.new result ≡ below (verdict V.ValueKind.kind self.now.circuit.now self.now.socket.now.fault) self.now.budget (length self.now.circuit.now.inputs) (length self.now.circuit.now.inputs - branch.next) branch.cube (going_on progress.old) }
     {
         for input in branch.next..self.circuit.input_count() {
             self.meet(branch.driving(input, false), progress, row)?;
@@ -125,7 +124,7 @@ pub fn visit<V: ValueKind>(
     socket: &mut Socket,
     row: &mut [V],
 ) -> Result<Answer, FolderRefusal>
-    ensures visits { Visits V.ValueKind.kind (circuit_model circuit.now) fault budget (length row.old) result }
+    ensures visits { Visits V.ValueKind.kind circuit.now fault budget (length row.old) result }
     ensures socket { SocketEmptied result socket.old socket.new }
     ensures row { RowKept result row.old row.new }
 {

@@ -3,9 +3,7 @@ use Rattle.std.proofs.lemmas.Grind.{common_steps}
 use Rattle.std.proofs.lemmas.Slice.{drop-append-drop}
 use Rattle.std.specs.Result.{result_map_both}
 use Rattle.refusals.specs.declared.layers.FolderRefusal.{FolderRefusal}
-use Rattle.circuit.specs.Circuits.{circuit_model}
 use Rattle.circuit.specs.Model.{line_count}
-use Rattle.faults.specs.Cubes.{cube_model}
 use Rattle.simulator.specs.Detection.{simulated, verdict}
 use Rattle.simulator.specs.Simulation.{simulation}
 use Rattle.simulator.specs.Laws.{Tells}
@@ -14,14 +12,14 @@ use Rattle.simulator.proofs.Telling.{verdict_tells}
 use Rattle.simulator.proofs.simulation.simulate.Goals as goal
 
 pub judge-requires : goal.judge-requires
-judge-requires g c = λ k d h. grind (arith, common_steps, outputs_below (circuit_model c.args.circuit.now) c.outputs.ensures.rules k d)
+judge-requires g c = λ k d h. grind (arith, common_steps, outputs_below c.args.circuit.now c.outputs.ensures.rules k d)
 
 pub returns : goal.returns
 returns g c =
     let v = g.V.ValueKind in
-    let model = circuit_model c.args.circuit.now in
+    let model = c.args.circuit.now in
     let f = c.args.socket.now.fault in
-    let q = cube_model c.args.cube in
+    let q = c.args.cube in
     let before = c.args.row.now in
     let inputs = c.input_count-inputs.result in
     let lines = c.line_count.result in
