@@ -10,10 +10,9 @@ use Rattle.faults.specs.declared.fault.Fault.{Fault}
 use Rattle.faults.specs.Cubes.{Cube, nothing_driven}
 use Rattle.simulator.specs.Detection.{verdict}
 use Rattle.simulator.specs.Simulation.{row_allowed}
-use Rattle.visit.specs.declared.answer.Answer as code
 use Rattle.visit.specs.Visiting.{Progress, met, below, at_start, Answer, progress_answer, answer, answer_tries}
 use Rattle.visit.specs.Meaning.{Means}
-use Rattle.visit.specs.Visits.{answer_model, Visits}
+use Rattle.visit.specs.Visits.{Visits}
 use Rattle.visit.proofs.Counting.{answer_within}
 use Rattle.visit.proofs.Meanings.{answer_means}
 
@@ -22,10 +21,10 @@ module _ (K : Kind) (M : Pairs → Type 0) (l : Lawful K M) (c : Circuit) (f : F
   inputs = length c.inputs
 
   -- the cube with nothing driven is met with the fault plugged
-  pub visit_is : (plugged : Option Fault) (q : Cube) (next : ℕ) (start end : Progress) (r : code.Answer)
+  pub visit_is : (plugged : Option Fault) (q : Cube) (next : ℕ) (start end : Progress) (r : Answer)
       → plugged ≡ Some f → q ≡ nothing_driven → next ≡ 0 → start ≡ at_start
       → end ≡ met (verdict K c plugged) budget (below (verdict K c plugged) budget inputs (inputs - next)) q start
-      → answer_model r ≡ progress_answer end → answer_model r ≡ answer K c f budget
+      → r ≡ progress_answer end → r ≡ answer K c f budget
   visit_is plugged q next start end r plug nothing first begin e is =
       is ∙ ap progress_answer e
       ∙ ap (λ (n : ℕ). progress_answer (met (verdict K c plugged) budget (below (verdict K c plugged) budget inputs n) q start)) (ap (λ (n : ℕ). inputs - n) first ∙ sub-zero inputs)
@@ -33,7 +32,7 @@ module _ (K : Kind) (M : Pairs → Type 0) (l : Lawful K M) (c : Circuit) (f : F
       ∙ ap (λ (p : Cube). progress_answer (met (verdict K c (Some f)) budget (below (verdict K c (Some f)) budget inputs inputs) p start)) nothing
       ∙ ap (λ (p : Progress). progress_answer (met (verdict K c (Some f)) budget (below (verdict K c (Some f)) budget inputs inputs) nothing_driven p)) begin
 
-  pub visits : (r : code.Answer) → Ok tt ≡ row_allowed c places → answer_model r ≡ answer K c f budget → Visits K c f budget places (Ok r)
+  pub visits : (r : Answer) → Ok tt ≡ row_allowed c places → r ≡ answer K c f budget → Visits K c f budget places (Ok r)
   visits r allowed e = record {
     answer = ap Ok e ∙ ap (result_map_both (λ _. answer K c f budget) (λ (e : FolderRefusal). e)) allowed;
     means = subst (λ (a : Answer). Means K c f a) (sym e) (answer_means K M l c f budget);

@@ -2,7 +2,7 @@
 ghost use Rattle.std.specs.Prelude.{◌≡◌};
 ghost use Rattle.std.specs.Option.{option_map};
 ghost use Rattle.visit.specs.Visiting.{fewer, at_start, progress_answer};
-ghost use Rattle.visit.specs.Visits.{going_on, left, answer_model};
+ghost use Rattle.visit.specs.Visits.{going_on, left};
 
 use crate::answer::Answer;
 use faults::Cube;
@@ -41,7 +41,7 @@ impl Progress {
 
     // The answer of a visit that ended so.
     pub fn answer(&self, end: Result<(), BudgetSpent>) -> Answer
-        ensures { answer_model result ≡ progress_answer (left self.now end) }
+        ensures { result ≡ progress_answer (left self.now end) }
     {
         let tries = self.tries;
         match (end, self.best) {
