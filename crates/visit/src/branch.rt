@@ -4,7 +4,7 @@ ghost use Rattle.std.specs.Prelude.{◌^◌, ◌<◌};
 use faults::Cube;
 
 // A cube, and the first input from which on it drives none: the cubes below it drive those.
-#[derive(Clone, Copy)]
+#[derive(Clone, Copy, Debug, PartialEq, Eq)]
 pub struct Branch {
     pub cube: Cube,
     pub next: usize,

@@ -7,7 +7,7 @@ ghost use Rattle.visit.specs.Visits.{going_on, left};
 use crate::answer::Answer;
 use faults::Cube;
 
-#[derive(Clone, Copy)]
+#[derive(Clone, Copy, Debug, PartialEq, Eq)]
 pub struct Progress {
     // the cube that shows with the fewest driven inputs so far
     pub best: Option<Cube>,
@@ -15,7 +15,7 @@ pub struct Progress {
 }
 
 // Why a visit is given up: a try is due, and the budget allows none.
-#[derive(Clone, Copy)]
+#[derive(Clone, Copy, Debug, PartialEq, Eq)]
 pub struct BudgetSpent;
 
 impl Progress {
@@ -30,13 +30,11 @@ impl Progress {
     }
 
     // Whether a cube drives fewer inputs than the best, or there is no best.
-    pub fn lacks(&self, cube: Cube) -> bool
+    pub fn is_beaten_by(&self, cube: Cube) -> bool
         ensures { result ≡ fewer cube self.now.best }
     {
-        match self.best {
-            Some(best) => cube.driven().count_ones() < best.driven().count_ones(),
-            None => true,
-        }
+        self.best
+            .is_none_or(|best| cube.driven().count_ones() < best.driven().count_ones())
     }
 
     // The answer of a visit that ended so.

@@ -1,11 +1,11 @@
 // The visit: depth first, inputs in rising order, 0 before 1.
-ghost use Rattle.std.specs.Prelude.{◌≡◌, ◌+◌, ◌-◌, ◌≤◌, false, length, if◌then◌else◌};
+ghost use Rattle.std.specs.Prelude.{◌≡◌, ◌+◌, ◌≤◌, false, length, if◌then◌else◌};
 ghost use Rattle.circuit.specs.Model.{line_count};
 ghost use Rattle.faults.specs.Cubes.{nothing_driven};
-ghost use Rattle.simulator.specs.Detection.{verdict};
 ghost use Rattle.simulator.specs.Simulation.{drives_beyond};
 ghost use Rattle.simulator.specs.Callers.{RowKept, SocketEmptied};
-ghost use Rattle.visit.specs.Visiting.{drive, met, below};
+ghost use Rattle.visit.specs.Visiting.{drive};
+ghost use Rattle.visit.specs.Settings.{verdict_in, input_count, below_branch, branch_met};
 ghost use Rattle.visit.specs.Visits.{going_on, left, Visits};
 
 use crate::answer::Answer;
@@ -43,8 +43,8 @@ impl Branch {
     }
 }
 
-// What a visit leaves as it is: the circuit, the socket with the fault, and how many tries it may make. (The row, which each
-// try writes, stays a parameter: beside it in a struct, each method would have to say that these three stay.)
+// What a visit leaves as it is: the circuit, the socket with the fault, and how many tries it may make. (In a struct with the
+// row too, `room` would leave the same three contracts into which a clause would come that these three stay as they are.)
 #[derive(Clone, Copy)]
 struct Setting<'a> {
     circuit: &'a Circuit,
@@ -57,7 +57,7 @@ impl Setting<'_> {
     fn verdict_on<V: ValueKind>(&self, cube: Cube, row: &mut [V]) -> Verdict
         requires inside { drives_beyond self.now.circuit.now cube ≡ false }
         requires room { line_count self.now.circuit.now ≤ length row.old }
-        ensures { result ≡ verdict V.ValueKind.kind self.now.circuit.now self.now.socket.now.fault cube }
+        ensures { result ≡ verdict_in V.ValueKind.kind self.now cube }
     {
         match simulate(self.circuit, cube, self.socket, row) {
             Ok(verdict) => verdict,
@@ -74,10 +74,10 @@ impl Setting<'_> {
         row: &mut [V],
     ) -> Result<(), BudgetSpent>
         requires room { line_count self.now.circuit.now ≤ length row.old }
-        requires inside { branch.next ≤ length self.now.circuit.now.inputs }
-        ensures { left progress.new result ≡ met (verdict V.ValueKind.kind self.now.circuit.now self.now.socket.now.fault) self.now.budget (below (verdict V.ValueKind.kind self.now.circuit.now self.now.socket.now.fault) self.now.budget (length self.now.circuit.now.inputs) (length self.now.circuit.now.inputs - branch.next)) branch.cube (going_on progress.old) }
+        requires inside { branch.next ≤ input_count self.now }
+        ensures { left progress.new result ≡ branch_met V.ValueKind.kind self.now branch (going_on progress.old) }
     {
-        if !progress.lacks(branch.cube) {
+        if !progress.is_beaten_by(branch.cube) {
             return Ok(());
         }
         if progress.tries >= self.budget {
@@ -103,8 +103,8 @@ impl Setting<'_> {
         row: &mut [V],
     ) -> Result<(), BudgetSpent>
         requires room { line_count self.now.circuit.now ≤ length row.old }
-        requires inside { branch.next ≤ length self.now.circuit.now.inputs }
-        ensures { left progress.new result ≡ below (verdict V.ValueKind.kind self.now.circuit.now self.now.socket.now.fault) self.now.budget (length self.now.circuit.now.inputs) (length self.now.circuit.now.inputs - branch.next) branch.cube (going_on progress.old) }
+        requires inside { branch.next ≤ input_count self.now }
+        ensures { left progress.new result ≡ below_branch V.ValueKind.kind self.now branch (going_on progress.old) }
     {
         for input in branch.next..self.circuit.input_count() {
             self.meet(branch.driving(input, false), progress, row)?;
