@@ -3,3 +3,4 @@ pub mod Rules
 pub mod Relating
 pub mod Readings
 pub mod Telling
+pub mod Turns

@@ -42,8 +42,7 @@ fn settle<V: ValueKind>(inputs: usize, gates: &[Gate], fault: Option<Fault>, row
     requires room { inputs + length gates.now ≡ length row.old }
     ensures { map V.ValueKind.meaning row.new ≡ gates_after V.ValueKind.kind.values fault (map V.ValueKind.meaning (take inputs row.old)) (map gate_model gates.now) }
 {
-    for (index, gate) in gates.iter().enumerate() {
-        let line = inputs + index;
+    for (line, gate) in (inputs..row.len()).zip(gates) {
         row[line] = gate_value(gate, fault, &row[..line]);
     }
 }
