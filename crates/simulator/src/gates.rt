@@ -51,8 +51,8 @@ pub fn gate_value<V: ValueKind>(gate: &Gate, fault: Option<Fault>, row: &[V]) ->
     };
     let mut value = at_pin(fault, line, 1, row[*first]);
     // no `fold`: its closure, with the bounds of its index to show at each turn, is longer than this loop
-    for (index, operand) in others.iter().enumerate() {
-        let next = at_pin(fault, line, index + 2, row[*operand]);
+    for (pin, operand) in (2..).zip(others) {
+        let next = at_pin(fault, line, pin, row[*operand]);
         value = join(gate.op, value, next);
     }
     at_pin(fault, line, 0, end(gate.op, value))
