@@ -3,4 +3,3 @@ pub mod Rules
 pub mod Relating
 pub mod Readings
 pub mod Telling
-pub mod Turns

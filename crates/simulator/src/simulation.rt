@@ -16,7 +16,8 @@ use faults::{Cube, Fault};
 use refusals::FolderRefusal;
 use values::kind::ValueKind;
 
-// What a cube gives an input.
+// What a cube gives an input. (By `map_or_else` it gets no proof: the kit does not cover a function passed by name that makes a
+// value of a type parameter.)
 fn input_value<V: ValueKind>(cube: Cube, input: usize) -> V
     ensures { V.ValueKind.meaning result ≡ input_value V.ValueKind.kind cube input }
 {
@@ -36,13 +37,12 @@ fn drive<V: ValueKind>(cube: Cube, fault: Option<Fault>, row: &mut [V])
 }
 
 // Works out the lines of the gates, below which those of the inputs stand.
-#[tactic(auto, using(crate::proofs::Rules::fits_at, std::proofs::lemmas::Grind::common_steps))]
 fn settle<V: ValueKind>(inputs: usize, gates: &[Gate], fault: Option<Fault>, row: &mut [V])
     requires fit { each_after (λ (before : List GateModel). gate_fits (inputs + length before)) [] (map gate_model gates.now) ≡ true }
     requires room { inputs + length gates.now ≡ length row.old }
     ensures { map V.ValueKind.meaning row.new ≡ gates_after V.ValueKind.kind.values fault (map V.ValueKind.meaning (take inputs row.old)) (map gate_model gates.now) }
 {
-    for (line, gate) in (inputs..row.len()).zip(gates) {
+    for (line, gate) in (inputs..).zip(gates) {
         row[line] = gate_value(gate, fault, &row[..line]);
     }
 }

@@ -10,8 +10,8 @@ use Rattle.faults.specs.declared.fault.Fault.{Fault}
 use Rattle.faults.specs.Cubes.{Cube, Within}
 use Rattle.simulator.specs.declared.verdict.Verdict.{Verdict}
 use Rattle.simulator.specs.declared.verdict.Verdict.TheVariants.{Shows, Still, Unsure}
-use Rattle.simulator.specs.Detection.{some_shows, verdict, detected, quiet, detects, Fills}
-use Rattle.simulator.proofs.Telling.{shown_are_tests, quiet_detect_nothing, vectors_are_shown}
+use Rattle.simulator.specs.Detection.{some_shows, verdict, detected, is_still, detects, Fills}
+use Rattle.simulator.proofs.Telling.{shown_are_tests, still_detect_nothing, vectors_are_shown}
 use Rattle.visit.specs.Visiting.{Progress, visited, answered, answer}
 use Rattle.visit.specs.Meaning.{Test, Means}
 use Rattle.visit.proofs.Words.{cut_bit, past_bit, bit_cut, bit_cut_set, ones_bit, bit_ones_set}
@@ -39,15 +39,15 @@ module _ (K : Kind) (M : Pairs → Type 0) (l : Lawful K M) (c : Circuit) (f : F
   judge = verdict K c (Some f)
 
   judge_shows : (q : Cube) → judge q ≡ Shows → detected K c (Some f) q ≡ true
-  judge_shows q e = go (detected K c (Some f) q) (quiet K c (Some f) q) e
+  judge_shows q e = go (detected K c (Some f) q) (is_still K c (Some f) q) e
     where
       go : (a b : Bool) → cond a Shows (cond b Still Unsure) ≡ Shows → a ≡ true
       go true b e = refl
       go false true e = absurd (let z : ◌≡◌ {A = ℕ} 0 1 = cc in omega arith)
       go false false e = absurd (let z : ◌≡◌ {A = ℕ} 0 1 = cc in omega arith)
 
-  judge_still : (q : Cube) → judge q ≡ Still → quiet K c (Some f) q ≡ true
-  judge_still q e = go (detected K c (Some f) q) (quiet K c (Some f) q) e
+  judge_still : (q : Cube) → judge q ≡ Still → is_still K c (Some f) q ≡ true
+  judge_still q e = go (detected K c (Some f) q) (is_still K c (Some f) q) e
     where
       go : (a b : Bool) → cond a Shows (cond b Still Unsure) ≡ Still → b ≡ true
       go true b e = absurd (let z : ◌≡◌ {A = ℕ} 0 1 = cc in omega arith)
@@ -55,7 +55,7 @@ module _ (K : Kind) (M : Pairs → Type 0) (l : Lawful K M) (c : Circuit) (f : F
       go false false e = absurd (let z : ◌≡◌ {A = ℕ} 0 1 = cc in omega arith)
 
   shows_judged : (q : Cube) → detected K c (Some f) q ≡ true → judge q ≡ Shows
-  shows_judged q h = ap (λ (b : Bool). cond b Shows (cond (quiet K c (Some f) q) Still Unsure)) h
+  shows_judged q h = ap (λ (b : Bool). cond b Shows (cond (is_still K c (Some f) q) Still Unsure)) h
 
   -- the cube's own levels fill it in, and each of its cuts
   fills_cut : (q : Cube) (k : ℕ) → Fills q.level (cut k q)
@@ -65,7 +65,7 @@ module _ (K : Kind) (M : Pairs → Type 0) (l : Lawful K M) (c : Circuit) (f : F
   still_misses q k s h =
       true≢false
       (sym (shown_are_tests K M l c (Some f) q q.level (judge_shows q h) (λ i e. refl))
-      ∙ quiet_detect_nothing K M l c (Some f) (cut k q) q.level (judge_still (cut k q) s) (fills_cut q k))
+      ∙ still_detect_nothing K M l c (Some f) (cut k q) q.level (judge_still (cut k q) s) (fills_cut q k))
 
   shown_test : (q : Cube) → judge q ≡ Shows → Test c f q
   shown_test q h v fills = shown_are_tests K M l c (Some f) q v (judge_shows q h) fills
