@@ -51,7 +51,7 @@ pub fn gate_value<V: ValueKind>(gate: &Gate, fault: Option<Fault>, row: &[V]) ->
         unreachable!()
     };
     let mut value = at_pin(fault, line, 1, row[*first]);
-    // no `fold`: its closure, with the bounds of its index to show at each turn, is longer than this loop
+    // by a `fold` two goals stay open: that its closure may be called at each operand, and what the fold gives
     for (pin, operand) in (2..).zip(others) {
         let next = at_pin(fault, line, pin, row[*operand]);
         value = join(gate.op, value, next);
