@@ -7,7 +7,8 @@ use Rattle.std.proofs.lemmas.List.Sums.{AllPass-from_list_all, list_all-from_All
 use Rattle.values.specs.Pairs.{Pair, Pairs, pair, has, ◌∈◌, shows, still, only, Single}
 use Rattle.values.specs.Values.{differs, pairs}
 use Rattle.values.specs.Kind.{Kind, Lawful}
-use Rattle.values.specs.Members.{only_has, only_is}
+use Rattle.values.specs.Laws.Members.{only_has}
+use Rattle.values.proofs.Members.{only_is}
 use Rattle.circuit.specs.Model.{Circuit}
 use Rattle.faults.specs.declared.fault.Fault.{Fault}
 use Rattle.faults.specs.Cubes.{Cube}

@@ -1,7 +1,7 @@
 // The kind five: a value knows both levels, or nothing.
 ghost use Rattle.values.specs.Five.{five, five_meaning, five_sets};
 ghost use Rattle.values.specs.Made.{Among};
-ghost use Rattle.values.specs.KindLaws.{five_laws};
+ghost use Rattle.values.specs.Laws.{five_laws};
 ghost use Rattle.std.proofs.Common.{rules};
 
 use crate::kind::ValueKind;
