@@ -4,7 +4,7 @@ ghost use Rattle.circuit.specs.Model.{Gate as GateModel};
 ghost use Rattle.circuit.specs.Lawful.{gate_fits, each_after};
 ghost use Rattle.circuit.specs.Tables.{gate_model};
 ghost use Rattle.simulator.specs.Lines.{inputs_row, gate_value, gates_after};
-ghost use Rattle.simulator.specs.Detection.{input_value, set_of, judged};
+ghost use Rattle.simulator.specs.Detection.{input_value, set_of, some_shows, all_still, judged};
 ghost use Rattle.simulator.specs.Simulation.{drives_beyond, DrivesBeyond, row_allowed, simulation_allowed, Simulates};
 ghost use Rattle.simulator.specs.Laws.{Telling};
 
@@ -55,14 +55,30 @@ fn value_at<V: ValueKind>(row: &[V], line: usize) -> V
     row[line]
 }
 
+// Whether some output's value shows.
+fn some_shows<V: ValueKind>(outputs: &[usize], row: &[V]) -> bool
+    requires { All (λ (o : ℕ). o < length row.now) outputs.now }
+    ensures { result ≡ some_shows (map V.ValueKind.meaning row.now) outputs.now }
+{
+    outputs.iter().any(|output| value_at(row, *output).shows())
+}
+
+// Whether every output's value is still.
+fn all_still<V: ValueKind>(outputs: &[usize], row: &[V]) -> bool
+    requires { All (λ (o : ℕ). o < length row.now) outputs.now }
+    ensures { result ≡ all_still (map V.ValueKind.meaning row.now) outputs.now }
+{
+    outputs.iter().all(|output| value_at(row, *output).still())
+}
+
 // The verdict on the lines of a row.
 fn judge<V: ValueKind>(outputs: &[usize], row: &[V]) -> Verdict
     requires { All (λ (o : ℕ). o < length row.now) outputs.now }
     ensures { result ≡ judged (map V.ValueKind.meaning row.now) outputs.now }
 {
-    if outputs.iter().any(|output| value_at(row, *output).shows()) {
+    if some_shows(outputs, row) {
         Verdict::Shows
-    } else if outputs.iter().all(|output| value_at(row, *output).still()) {
+    } else if all_still(outputs, row) {
         Verdict::Still
     } else {
         Verdict::Unsure
