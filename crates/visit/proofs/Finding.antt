@@ -171,11 +171,8 @@ module _ (judge : Cube → Verdict) (budget inputs : ℕ) where
         → Within t.driven t.level → judge t ≡ Shows → Finds m t k
     unfolding Finds
     below_finds zero k e t dl ll proper shown s unsure h =
-        absurd (clash (sym shown ∙ ap judge whole ∙ unsure))
+        absurd (let clash : Shows ≡ Unsure = sym shown ∙ ap judge whole ∙ unsure in cc)
       where
-        clash : Shows ≡ Unsure → ⊥
-        clash x = let z : ◌≡◌ {A = ℕ} 0 1 = ap (elim [ Shows ↦ 0 | Still ↦ 1 | Unsure ↦ 1 ]) x in omega arith
-
         at : k ≡ inputs
         at = omega arith
 

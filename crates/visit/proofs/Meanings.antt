@@ -43,16 +43,16 @@ module _ (K : Kind) (M : Pairs → Type 0) (l : Lawful K M) (c : Circuit) (f : F
     where
       go : (a b : Bool) → cond a Shows (cond b Still Unsure) ≡ Shows → a ≡ true
       go true b e = refl
-      go false true e = absurd (let z : ◌≡◌ {A = ℕ} 0 1 = cc in omega arith)
-      go false false e = absurd (let z : ◌≡◌ {A = ℕ} 0 1 = cc in omega arith)
+      go false true e = cc
+      go false false e = cc
 
   judge_still : (q : Cube) → judge q ≡ Still → is_still K c (Some f) q ≡ true
   judge_still q e = go (detected K c (Some f) q) (is_still K c (Some f) q) e
     where
       go : (a b : Bool) → cond a Shows (cond b Still Unsure) ≡ Still → b ≡ true
-      go true b e = absurd (let z : ◌≡◌ {A = ℕ} 0 1 = cc in omega arith)
+      go true b e = cc
       go false true e = refl
-      go false false e = absurd (let z : ◌≡◌ {A = ℕ} 0 1 = cc in omega arith)
+      go false false e = cc
 
   shows_judged : (q : Cube) → detected K c (Some f) q ≡ true → judge q ≡ Shows
   shows_judged q h = ap (λ (b : Bool). cond b Shows (cond (is_still K c (Some f) q) Still Unsure)) h
@@ -82,7 +82,7 @@ module _ (K : Kind) (M : Pairs → Type 0) (l : Lawful K M) (c : Circuit) (f : F
   whole_within v i e = go (cases_lt i inputs)
     where
       go : (i < inputs) ⊎ (inputs ≤ i) → v % 2 ^ inputs / 2 ^ i % 2 ≡ 0
-      go (inl l) = absurd (let z : ◌≡◌ {A = ℕ} 1 0 = sym (ones_bit inputs i l) ∙ e in omega arith)
+      go (inl l) = absurd (omega (arith, ones_bit inputs i l))
       go (inr l) = past_bit (v % 2 ^ inputs) inputs i (mod_below v (2 ^ inputs) (pow_pos inputs)) l
 
   whole_fills : (v : ℕ) → Fills v (whole v)
