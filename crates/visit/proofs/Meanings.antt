@@ -2,6 +2,7 @@
 use Rattle.std.proofs.Common.{◌≡◌, ℕ, ◌-◌, ◌/◌, ◌%◌, ◌^◌, ◌<◌, ◌≤◌, Bool, true, false, cond, eqb, ◌⊎◌, List, length, Some, None, Option, sym, refl, ap, ◌∙◌, subst, inl, inr, true≢false, arith}
 use lib.Count.{ones}
 use Rattle.std.proofs.lemmas.Nat.{pow_pos, mod_below}
+use Rattle.std.proofs.lemmas.Nat.Bits.{bit_at_above, bit_at_ones}
 use Rattle.std.proofs.lemmas.Bool.{cases_lt}
 use Rattle.values.specs.Pairs.{Pairs}
 use Rattle.values.specs.Kind.{Kind, Lawful}
@@ -14,7 +15,7 @@ use Rattle.simulator.specs.Detection.{some_shows, verdict, detected, is_still, d
 use Rattle.simulator.proofs.Telling.{shown_are_tests, still_detect_nothing, vectors_are_shown}
 use Rattle.visit.specs.Visiting.{Progress, visited, answered, answer}
 use Rattle.visit.specs.Meaning.{Test, Means}
-use Rattle.visit.proofs.Words.{cut_bit, past_bit, bit_cut, bit_cut_set, ones_bit, bit_ones_set}
+use Rattle.visit.proofs.Words.{cut_bit, bit_cut, set_below}
 use Rattle.visit.proofs.Finding.{AtMost, cut, cut_ones, visit_finds}
 use Rattle.visit.proofs.Holding.{Shape, Good, visit_good}
 use Rattle.visit.proofs.Inputs.{simulated_cut}
@@ -29,7 +30,7 @@ cut_shape k q w = record {
   where
     go : (i : ℕ) → q.driven % 2 ^ k / 2 ^ i % 2 ≡ 0 → (i < k) ⊎ (k ≤ i) → q.level % 2 ^ k / 2 ^ i % 2 ≡ 0
     go i e (inl l) = cut_bit q.level k i l ∙ w i (sym (cut_bit q.driven k i l) ∙ e)
-    go i e (inr l) = past_bit (q.level % 2 ^ k) k i (mod_below q.level (2 ^ k) (pow_pos k)) l
+    go i e (inr l) = bit_at_above (q.level % 2 ^ k) k i (mod_below q.level (2 ^ k) (pow_pos k)) l
 
 module _ (K : Kind) (M : Pairs → Type 0) (l : Lawful K M) (c : Circuit) (f : Fault) where
   abbrev inputs : ℕ
@@ -59,7 +60,7 @@ module _ (K : Kind) (M : Pairs → Type 0) (l : Lawful K M) (c : Circuit) (f : F
 
   -- the cube's own levels fill it in, and each of its cuts
   fills_cut : (q : Cube) (k : ℕ) → Fills q.level (cut k q)
-  fills_cut q k i h = sym (bit_cut q.level k i (bit_cut_set q.driven k i h))
+  fills_cut q k i h = sym (bit_cut q.level k i (set_below (q.driven % 2 ^ k) k i (mod_below q.driven (2 ^ k) (pow_pos k)) h))
 
   still_misses : (q : Cube) (k : ℕ) → judge (cut k q) ≡ Still → judge q ≡ Shows → ⊥
   still_misses q k s h =
@@ -82,16 +83,16 @@ module _ (K : Kind) (M : Pairs → Type 0) (l : Lawful K M) (c : Circuit) (f : F
   whole_within v i e = go (cases_lt i inputs)
     where
       go : (i < inputs) ⊎ (inputs ≤ i) → v % 2 ^ inputs / 2 ^ i % 2 ≡ 0
-      go (inl l) = absurd (omega (arith, ones_bit inputs i l))
-      go (inr l) = past_bit (v % 2 ^ inputs) inputs i (mod_below v (2 ^ inputs) (pow_pos inputs)) l
+      go (inl l) = absurd (omega (arith, bit_at_ones inputs i l))
+      go (inr l) = bit_at_above (v % 2 ^ inputs) inputs i (mod_below v (2 ^ inputs) (pow_pos inputs)) l
 
   whole_fills : (v : ℕ) → Fills v (whole v)
   unfolding whole
-  whole_fills v i h = sym (bit_cut v inputs i (bit_ones_set inputs i h))
+  whole_fills v i h = sym (bit_cut v inputs i (set_below (2 ^ inputs - 1) inputs i (omega (arith, pow_pos inputs)) h))
 
   whole_shown : (v : ℕ) → detects c (Some f) v ≡ true → detected K c (Some f) (whole v) ≡ true
   unfolding whole
-  whole_shown v h = vectors_are_shown K M l c (Some f) (whole v) v (whole_fills v) (λ i l. ap (λ (x : ℕ). eqb x 1) (ones_bit inputs i l)) h
+  whole_shown v h = vectors_are_shown K M l c (Some f) (whole v) v (whole_fills v) (λ i l. ap (λ (x : ℕ). eqb x 1) (bit_at_ones inputs i l)) h
 
   -- a visit that is not spent holds a cube that no shown cube beats
   finds : (budget : ℕ) → (visited judge budget inputs).spent ≡ false → (t : Cube) → Within t.driven t.level
