@@ -26,7 +26,7 @@ use Rattle.law.specs.declared.call.Call.{Call}
 use Rattle.law.specs.declared.call.Call.TheVariants.{Enter, Search, Cover}
 use Rattle.law.specs.Histories as histories
 use Rattle.law.specs.Histories.{Event, Outcome, Entered, Searched, defined, Step, Run, start, next}
-use Rattle.law.specs.Sound.{is_unspent_outcome, searches, SearchedUnspent, IsRedundant, Sound}
+use Rattle.law.specs.Sound.{is_unspent_outcome, searches, SearchedUnspent, IsRedundant, Sound, KeepsLaw}
 use Rattle.law.proofs.Granting.{ok_same, both_granted, named_granted, entered_granted, found_granted, allowed_unsettled, answered_is, fewest_state}
 use Rattle.law.proofs.Keeping.{Known, Kept, kept_first, kept_same, kept_entered, kept_filed, kept_covered}
 use Rattle.law.proofs.Places.{zero_not_one}
@@ -137,7 +137,8 @@ module _ (K : Kind) (M : Pairs → Type 0) (l : Lawful K M) (c : Circuit) where
     }
 
   -- one call more
-  pub law_step : (e : Event) (before after : List Entry) → Step K c e before after → (history : List Event) → Run K c history before → Run K c (e ∷ history) after × Sound K c (e ∷ history) after
-  law_step e before after step history run =
-      let longer : Run K c (e ∷ history) after = next run step in
-      (longer, kept_sound (e ∷ history) after (run_keeps (e ∷ history) after longer))
+  pub keeps_law : (before after : Folder) (e : Event) → before.circuit ≡ c → after.circuit ≡ c → Step K c e before.table after.table → KeepsLaw K before e after
+  keeps_law before after e was is step history run =
+      let longer : Run K c (e ∷ history) after.table = next (subst (λ (d : Circuit). Run K d history before.table) was run) step in
+      subst (λ (d : Circuit). Run K d (e ∷ history) after.table × Sound K d (e ∷ history) after.table) (sym is)
+      (longer, kept_sound (e ∷ history) after.table (run_keeps (e ∷ history) after.table longer))

@@ -1,7 +1,7 @@
 -- The law of the folder, for a value kind, a circuit and a history of calls: what the entries of the table say of vectors
 -- and cubes. It speaks of vectors, of cubes that the kind shows to detect a fault, and of the calls made, and of no step of
 -- the program.
-use Rattle.std.specs.Prelude.{◌≡◌, ℕ, Bool, true, false, ◌&&◌, List, Some, Ok, Err, Result, ◌==◌}
+use Rattle.std.specs.Prelude.{◌≡◌, ℕ, Bool, true, false, ◌&&◌, List, ◌∷◌, Some, Ok, Err, Result, ◌==◌}
 use Rattle.std.specs.List.{slice_get, list_any}
 use Rattle.refusals.specs.declared.cause.Refusal.{Refusal}
 use Rattle.values.specs.Kind.{Kind}
@@ -10,10 +10,11 @@ use Rattle.faults.specs.Cubes.{Cube}
 use Rattle.visit.specs.Visiting as visiting
 use Rattle.visit.specs.Meaning.{Test, Unbeaten, Undetectable}
 use Rattle.folder.specs.Entries.{State, Fewest, Redundant, Covered, Entry, state_cube}
+use Rattle.folder.specs.Folders.{Folder}
 use Rattle.law.specs.declared.call.Call.{Call}
 use Rattle.law.specs.declared.call.Call.TheVariants.{Enter, Search, Cover}
 use Rattle.law.specs.Histories as histories
-use Rattle.law.specs.Histories.{Event, Outcome, Entered, Searched}
+use Rattle.law.specs.Histories.{Event, Outcome, Entered, Searched, Run}
 
 -- an answer of a search that was not spent
 abbrev pub is_unspent : visiting.Answer → Bool
@@ -62,3 +63,10 @@ pub record Sound (K : Kind) (c : Circuit) (history : List Event) (table : List E
   pub redundant : (n : ℕ) (e : Entry) → EntryAt table n e → IsRedundant e.state → SearchedUnspent history n × Undetectable c e.fault
   -- an entry that was so searched, and whose fault no vector detects, is redundant
   pub marked : (n : ℕ) (e : Entry) → EntryAt table n e → SearchedUnspent history n → Undetectable c e.fault → IsRedundant e.state
+
+-- The law outlasts an event that leads from one folder to the next: after any history that led from the empty table to the first
+-- folder's, the history with this event leads to the next folder's table, and the law holds there.
+abbrev pub KeepsLaw : Kind → Folder → Event → Folder → Type 0
+KeepsLaw K before e after =
+    (history : List Event) → Run K before.circuit history before.table
+    → Run K after.circuit (e ∷ history) after.table × Sound K after.circuit (e ∷ history) after.table
