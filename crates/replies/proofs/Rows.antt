@@ -1,8 +1,9 @@
 -- The lines of a listing, one more at a time.
-use Rattle.std.proofs.Common.{◌≡◌, ℕ, ◌+◌, ◌<◌, ◌≤◌, Bool, true, false, cond, List, [], ◌∷◌, ◌++◌, map, length, get_or, drop, sym, refl, ap, ◌∙◌, append_assoc, append-nil, arith}
+use Rattle.std.proofs.Common.{◌≡◌, ℕ, ◌+◌, ◌<◌, ◌≤◌, cond, List, [], ◌∷◌, ◌++◌, map, length, get_or, drop, sym, refl, ap, ◌∙◌, append_assoc, append-nil}
 use Rattle.std.proofs.lemmas.List.{drop_more, drop_all, length-map, get_or-map}
+use Rattle.std.proofs.lemmas.List.Sums.{sum_by-cons}
 use Rattle.std.specs.Prelude.{codes}
-use Rattle.std.specs.List.{filter}
+use Rattle.std.specs.List.{count_by}
 use Rattle.circuit.specs.Model.{Circuit}
 use Rattle.folder.specs.declared.entry.Entry as code
 use Rattle.folder.specs.Entries.{Entry, entry_model, state_model}
@@ -23,16 +24,10 @@ pub rows_end : (c : Circuit) (es : List code.Entry) (i : ℕ) (text : List ℕ) 
 rows_end c es i text h = ap (λ (rest : List Entry). text ++ entry_lines c i rest) (drop_all i (map entry_model es) (simp length-map h)) ∙ append-nil text
 
 -- the entries that pass the test, counted
-pub tested_is : (es : List code.Entry) → length (filter (λ (e : code.Entry). is_tested (state_model e.state)) es) ≡ tested_count (map entry_model es)
+pub tested_is : (es : List code.Entry) → count_by (λ (e : code.Entry). is_tested (state_model e.state)) es ≡ tested_count (map entry_model es)
 tested_is [] = refl
-tested_is (e ∷ es) = go (is_tested (state_model e.state)) (tested_is es)
-  where
-    passing : List code.Entry
-    passing = filter (λ (e : code.Entry). is_tested (state_model e.state)) es
-
-    go : (b : Bool) → length passing ≡ tested_count (map entry_model es) → length (cond b (e ∷ passing) passing) ≡ cond b 1 0 + tested_count (map entry_model es)
-    go true h = omega (arith, h)
-    go false h = omega (arith, h)
+tested_is (e ∷ es) =
+    sum_by-cons _ e es ∙ ap (λ (n : ℕ). cond (is_tested (state_model e.state)) 1 0 + n) (tested_is es) ∙ sym (sum_by-cons _ (entry_model e) (map entry_model es))
 
 pub listed_whole : (c : Circuit) (es : List Entry) (text out : List ℕ) (tested total : ℕ) → text ≡ entry_lines c 0 es → tested ≡ tested_count es → total ≡ length es → out ≡ text ++ counts_line tested total → out ≡ listing c es
 listed_whole c es text out tested total t k l o =

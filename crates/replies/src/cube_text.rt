@@ -1,5 +1,5 @@
 // A cube as it is written: for each input 0, 1 or x, or `none` where there is no cube.
-ghost use Rattle.std.specs.Prelude.{◌≡◌, ◌≤◌, Some};
+ghost use Rattle.std.specs.Prelude.{◌≡◌, Some};
 ghost use Rattle.std.specs.Option.{option_map};
 ghost use Rattle.std.specs.Fmt.{WritesOnOk};
 ghost use Rattle.faults.specs.Cubes.{cube_model};
@@ -12,7 +12,6 @@ use std::fmt;
 pub struct CubeText {
     pub cube: Option<Cube>,
     pub inputs: usize,
-    ghost few: { inputs ≤ 64 },
 }
 
 // The letter of one input.

@@ -46,7 +46,7 @@ impl fmt::Display for EntryLine<'_> {
             name: self.circuit.line_name(fault.line()),
         };
         let pin = fault.pin();
-        let level = if fault.level() { "1" } else { "0" };
+        let level = u8::from(fault.level());
         let state = self.entry.state();
         let cube = CubeText {
             cube: self.entry.cube(),

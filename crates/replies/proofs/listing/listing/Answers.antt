@@ -1,5 +1,6 @@
 use Rattle.std.proofs.Common.{◌≡◌, List, map, length, string_bytes, sym, ap, ◌∙◌, rules, tests}
 use Rattle.std.proofs.lemmas.List.{length-map}
+use Rattle.std.proofs.lemmas.List.Sums.{length-filter}
 use Rattle.std.proofs.lemmas.Iterator.{YieldsList-from_slice}
 use Rattle.std.proofs.lemmas.Iterator.Consumers.{YieldsList-from_filter, count_from_yields_List}
 use Rattle.circuit.specs.declared.circuit.Circuit.{Circuit}
@@ -23,7 +24,7 @@ returns c =
     let tested : c.count-tested.result ≡ tested_count (map entry_model es) =
     count_from_yields_List _ _ c.count-tested.ensures.ran
     (YieldsList-from_filter _ (λ (e : Entry). is_tested (state_model e.state)) (YieldsList-from_slice es cc) c.filter.ensures.closure (λ x b q k. search (rules, tests)))
-    ∙ tested_is es in
+    ∙ length-filter (λ (e : Entry). is_tested (state_model e.state)) es ∙ tested_is es in
     let total : length es ≡ length (map entry_model es) = sym (length-map es entry_model) in
     listed_whole d (map entry_model es) (string_bytes c.loop-number.text) (string_bytes c.write-2.new.self) c.count-tested.result (length es) text tested total c.in_ok-write-2.ensures.bytes
     ∙ ap (λ (x : Circuit). listing (circuit_model x) (map entry_model es)) c.circuit-circuit.ensures
