@@ -108,12 +108,8 @@ fn verdict<V: ValueKind>(
 // One digit for each vector: 1 if it detects the fault.
 fn print_vectors(rt: &impl Print, circuit: &Circuit, fault: Fault) -> anyhow::Result<()> {
     for vector in 0..(1u64 << INPUTS) {
-        let cube = Cube::new((1 << INPUTS) - 1, vector)
-            .ok()
-            .context("no such cube")?;
-        let verdict = verdict(circuit, fault, cube, &mut [Nine::unknown(); LINES])
-            .ok()
-            .context("refused")?;
+        let cube = Cube::new((1 << INPUTS) - 1, vector)?;
+        let verdict = verdict(circuit, fault, cube, &mut [Nine::unknown(); LINES])?;
         let digit = match verdict {
             Verdict::Shows => '1',
             Verdict::Still => '0',
@@ -127,16 +123,11 @@ fn print_vectors(rt: &impl Print, circuit: &Circuit, fault: Fault) -> anyhow::Re
 
 // The faults of a line: its pins in order, stuck at 0 and then at 1.
 fn print_line(rt: &impl Print, circuit: &Circuit, line: usize) -> anyhow::Result<()> {
-    let operands = circuit.gate(line).map_or(0, |gate| gate.operands.len());
-    for pin in 0..=operands {
+    let name = circuit.line_name(line).context("a line without a name")?;
+    for pin in 0..=circuit.operand_count(line) {
         for level in 0..2 {
-            let fault = Fault::new(circuit, StuckAt { line, pin, level })
-                .ok()
-                .context("no such fault")?;
-            match circuit.line_name(line) {
-                Some(name) => print!(rt; "{name} {pin} {level} ")?,
-                None => print!(rt; "none {pin} {level} ")?,
-            }
+            let fault = Fault::new(circuit, StuckAt { line, pin, level })?;
+            print!(rt; "{name} {pin} {level} ")?;
             print_vectors(rt, circuit, fault)?;
         }
     }
@@ -165,9 +156,7 @@ fn print_cubes(rt: &impl Print, circuit: &Circuit, named: NamedFault) -> anyhow:
         level,
     } = named;
     let line = circuit.line_named(name.as_bytes()).context("no such line")?;
-    let fault = Fault::new(circuit, StuckAt { line, pin, level })
-        .ok()
-        .context("no such fault")?;
+    let fault = Fault::new(circuit, StuckAt { line, pin, level })?;
     for letters in &CUBES {
         let cube = cube_of(letters);
         print!(rt; "{name} {pin} {level} {letters}")?;
@@ -182,9 +171,7 @@ fn print_cubes(rt: &impl Print, circuit: &Circuit, named: NamedFault) -> anyhow:
 fn main(rt: HostRuntime) -> anyhow::Result<()> {
     let heap = rt.alloc();
     let mut circuit = Circuit::blank(heap)?;
-    read(heap, C17, &mut circuit)
-        .ok()
-        .context("the circuit is refused")?;
+    let _ = read(heap, C17, &mut circuit)?;
     for line in 0..circuit.line_count() {
         print_line(&rt, &circuit, line)?;
     }
