@@ -8,7 +8,7 @@ use Rattle.std.specs.List.{find, range_with_len}
 use Rattle.circuit.specs.declared.name.Name.{Name}
 use Rattle.circuit.specs.declared.tables.Tables.{Tables}
 use Rattle.circuit.specs.Model.{Gate, Circuit, names, has_name, line_named, gate_at}
-use Rattle.circuit.specs.Tables.{name_bytes, tables_model}
+use Rattle.circuit.specs.Tables.{tables_model}
 
 -- the search by number over `count` lines from line k on, where `named` gives the names of the lines
 search_from : (named : ℕ → Option (List ℕ)) (word : List ℕ) (count k : ℕ) (ns : List (Option (List ℕ))) → ((i : ℕ) → named (k + i) ≡ get_or ns i None)
@@ -49,17 +49,10 @@ module _ (c : Circuit) where
   past_inputs : (i : ℕ) (o : Option Gate) → length c.inputs ≤ i → gate_at c i ≡ o → get_or (names c) i None ≡ option_and_then (λ (g : Gate). g.name) o
   past_inputs i o h e = grind (arith, slice_get_cases c.gates (i - length c.inputs), past_named i, gate_named i)
 
-pub mapped_twice : {X Y Z : Type 0} (f : Y → Z) (g : X → Y) (o : Option X) → option_map (λ (x : X). f (g x)) o ≡ option_map f (option_map g o)
-mapped_twice f g None = refl
-mapped_twice f g (Some x) = refl
-
 -- the name of a line as the code's tables have it
 module _ (t : Tables) (i : ℕ) where
-  pub input_name_at : (n : Name) → i < vec_len t.inputs → n ≡ get_or (vec_items t.inputs) i n → Some (name_bytes n) ≡ get_or (names (tables_model t)) i None
-  input_name_at n h e =
-      let fits : i < length (vec_items t.inputs) = omega (arith, t.inputs.ok.0) in
-      sym (input_named (tables_model t) i (name_bytes n) (simp length-map fits)
-      ∙ ap Some (get_or-map name_bytes (vec_items t.inputs) i n (name_bytes n) fits ∙ ap name_bytes (sym e)))
+  pub input_name_at : (n : Name) → i < vec_len t.inputs → n ≡ get_or (vec_items t.inputs) i n → Some n ≡ get_or (names (tables_model t)) i None
+  input_name_at n h e = sym (input_named (tables_model t) i n (omega (arith, t.inputs.ok.0)) ∙ ap Some (sym e))
 
   pub gate_name_at : (o : Option Gate) → vec_len t.inputs ≤ i → gate_at (tables_model t) i ≡ o → option_and_then (λ (g : Gate). g.name) o ≡ get_or (names (tables_model t)) i None
-  gate_name_at o h e = sym (past_inputs (tables_model t) i o (omega (arith, length-map (vec_items t.inputs) name_bytes, t.inputs.ok.0)) e)
+  gate_name_at o h e = sym (past_inputs (tables_model t) i o (omega (arith, t.inputs.ok.0)) e)

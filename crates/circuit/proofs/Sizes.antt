@@ -5,11 +5,11 @@ use Rattle.std.proofs.lemmas.Bool.{and_parts, leb-true}
 use Rattle.circuit.specs.declared.tables.Tables.{Tables}
 use Rattle.circuit.specs.Model.{line_count}
 use Rattle.circuit.specs.Lawful.{between, lawful}
-use Rattle.circuit.specs.Tables.{name_bytes, gate_model, tables_model}
+use Rattle.circuit.specs.Tables.{gate_model, tables_model}
 
 module _ (t : Tables) where
   pub inputs_count : length (tables_model t).inputs ≡ vec_len t.inputs
-  inputs_count = length-map (vec_items t.inputs) name_bytes ∙ sym t.inputs.ok.0
+  inputs_count = sym t.inputs.ok.0
 
   pub gates_count : length (tables_model t).gates ≡ vec_len t.gates
   gates_count = length-map (vec_items t.gates) gate_model ∙ sym t.gates.ok.0

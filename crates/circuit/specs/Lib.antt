@@ -2,4 +2,3 @@ pub mod Ops
 pub mod Model
 pub mod Lawful
 pub mod Tables
-pub mod Circuits

@@ -37,6 +37,15 @@ line_named (name ∷ rest) word = cond (has_name word name) (Some 0) (option_map
 abbrev pub gate_at : Circuit → ℕ → Option Gate
 gate_at c line = cond (nat_lt line (length c.inputs)) None (slice_get c.gates (line - length c.inputs))
 
+-- how many operands a gate has, if there is one
+abbrev pub operands_of : Option Gate → ℕ
+operands_of None = 0
+operands_of (Some g) = length g.operands
+
+-- how many operands the gate of a line has; an input has none
+abbrev pub operand_count : Circuit → ℕ → ℕ
+operand_count c line = operands_of (gate_at c line)
+
 -- one input, named a, which is the output
 abbrev pub blank : Circuit
 blank = record { inputs = (97 ∷ []) ∷ []; gates = []; outputs = 0 ∷ [] }

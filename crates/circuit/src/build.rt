@@ -3,7 +3,6 @@ ghost use Rattle.std.specs.Prelude.{◌≡◌, true, false, IfOk, MatchResult};
 ghost use Rattle.circuit.specs.Model.{blank};
 ghost use Rattle.circuit.specs.Lawful.{lawful};
 ghost use Rattle.circuit.specs.Tables.{tables_model};
-ghost use Rattle.circuit.specs.Circuits.{circuit_model};
 
 use crate::circuit::Circuit;
 use crate::name::Name;
@@ -13,7 +12,7 @@ use std::alloc::{AllocError, Global};
 impl Circuit {
     // The circuit of tables that keep the rules; tables that do not are handed back.
     pub fn new(tables: Tables) -> Result<Circuit, Tables>
-        ensures { MatchResult result (λ c. (lawful (tables_model tables) ≡ true) × (circuit_model c ≡ tables_model tables)) (λ t. (lawful (tables_model tables) ≡ false) × (t ≡ tables)) }
+        ensures { MatchResult result (λ c. (lawful (tables_model tables) ≡ true) × (c ≡ tables_model tables)) (λ t. (lawful (tables_model tables) ≡ false) × (t ≡ tables)) }
     {
         if tables.is_lawful() {
             Ok(Circuit { tables })
@@ -24,7 +23,7 @@ impl Circuit {
 
     // The blank circuit: one input, named a, which is its output.
     pub fn blank(heap: Global) -> Result<Circuit, AllocError>
-        ensures { IfOk result (λ c. circuit_model c ≡ blank) }
+        ensures { IfOk result (λ c. c ≡ blank) }
     {
         let inputs = vec![in heap; Name::a(heap)?]?;
         let outputs = vec![in heap; 0]?;
@@ -40,7 +39,7 @@ impl Circuit {
 
     // Turns into the blank circuit, which takes no memory.
     pub fn clear(&mut self)
-        ensures { circuit_model self.new ≡ blank }
+        ensures { self.new ≡ blank }
     {
         self.tables.inputs.truncate(1);
         self.tables.inputs[0].become_a();

@@ -1,8 +1,9 @@
 // The name of a line: 1 to 8 letters and digits, a letter first.
-ghost use Rattle.std.specs.Prelude.{◌≡◌, true, false, [], ◌∷◌, IfOk, Some, MatchOption};
+ghost use Rattle.std.specs.Prelude.{◌≡◌, ℕ, List, true, false, [], ◌∷◌, IfOk, Some, MatchOption};
 ghost use Rattle.words.specs.Spelling.{name_shape};
 
 use std::alloc::{AllocError, Global};
+use std::marker::Model;
 use std::{fmt, str};
 use words::{PlacedWord, is_name};
 
@@ -11,13 +12,21 @@ use words::{PlacedWord, is_name};
 #[derive(Drop)]
 pub struct Name {
     bytes: Vec<u8>,
-    ghost shaped: { name_shape bytes.items ≡ true },
+}
+
+// A contract sees a name as its bytes.
+impl Model for Name {
+    ghost Value = { List ℕ };
+
+    ghost view = { λ n. n.bytes.items };
+
+    ghost invariant = { λ n. name_shape n.bytes.items ≡ true };
 }
 
 impl Name {
     // A name of these bytes; nothing where they are no name.
     pub fn new(heap: Global, word: &[u8]) -> Result<Option<Name>, AllocError>
-        ensures { IfOk result (λ o. MatchOption o (name_shape word.now ≡ false) (λ n. n.bytes.items ≡ word.now)) }
+        ensures { IfOk result (λ o. MatchOption o (name_shape word.now ≡ false) (λ n. n ≡ word.now)) }
     {
         if !is_name(word) {
             return Ok(None);
@@ -28,7 +37,7 @@ impl Name {
 
     // The name that a word of a text is.
     pub fn from_word(heap: Global, word: PlacedWord<'_>) -> Result<Name, AllocError>
-        ensures { IfOk result (λ n. n.bytes.items ≡ word.entry.bytes.now) }
+        ensures { IfOk result (λ n. n ≡ word.entry.bytes.now) }
     {
         let bytes = word.bytes.to_vec(heap)?;
         Ok(Name { bytes })
@@ -36,21 +45,21 @@ impl Name {
 
     // The name `a`.
     pub fn a(heap: Global) -> Result<Name, AllocError>
-        ensures { IfOk result (λ n. n.bytes.items ≡ 97 ∷ []) }
+        ensures { IfOk result (λ n. n ≡ 97 ∷ []) }
     {
         let bytes = vec![in heap; b'a']?;
         Ok(Name { bytes })
     }
 
     pub fn bytes(&self) -> &[u8]
-        ensures { result.now ≡ self.now.bytes.items }
+        ensures { result.now ≡ self.now }
     {
         &self.bytes
     }
 
     // Turns into the name `a`, which takes no memory.
     pub fn become_a(&mut self)
-        ensures { self.new.bytes.items ≡ 97 ∷ [] }
+        ensures { self.new ≡ 97 ∷ [] }
     {
         self.bytes.truncate(1);
         self.bytes[0] = b'a';
@@ -59,10 +68,10 @@ impl Name {
 
 // A name as it is written.
 impl fmt::Display for Name {
-    ghost output = { λ n. Some n.bytes.items };
+    ghost output = { λ n. Some n };
 
     fn fmt<W: fmt::Write>(&self, f: &mut fmt::Formatter<W>) -> fmt::Result {
-        match str::from_utf8(self.bytes()) {
+        match str::from_utf8(&self.bytes) {
             Ok(text) => f.write_str(text),
             Err(_) => unreachable!(),
         }

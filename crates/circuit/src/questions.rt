@@ -2,10 +2,9 @@
 ghost use Rattle.std.specs.Prelude.{◌≡◌, ◌≤◌, true, map, length, take, None, nat_eq, slice_index_or};
 ghost use Rattle.std.specs.List.{list_any};
 ghost use Rattle.std.specs.Option.{option_map};
-ghost use Rattle.circuit.specs.Model.{names, has_name, line_named, line_count, gate_at};
+ghost use Rattle.circuit.specs.Model.{names, has_name, line_named, line_count, gate_at, operand_count};
 ghost use Rattle.circuit.specs.Lawful.{lawful};
-ghost use Rattle.circuit.specs.Tables.{name_bytes, gate_model, tables_model};
-ghost use Rattle.circuit.specs.Circuits.{circuit_model};
+ghost use Rattle.circuit.specs.Tables.{gate_model, tables_model};
 
 use crate::circuit::Circuit;
 use crate::gate::Gate;
@@ -14,7 +13,7 @@ use crate::tables::Tables;
 
 // Whether a line, by the name that it has or lacks, has that name.
 fn has_name(name: Option<&Name>, word: &[u8]) -> bool
-    ensures { result ≡ has_name word.now (option_map (λ n. name_bytes n.now) name.entry) }
+    ensures { result ≡ has_name word.now (option_map (λ n. n.now) name.entry) }
 {
     name.is_some_and(|name| name.bytes() == word)
 }
@@ -34,10 +33,11 @@ impl Tables {
         self.gates.get(line.checked_sub(self.inputs.len())?)
     }
 
-    // The name of a line, if there is such a line and it has one.
+    // The name of a line, if there is such a line and it has one. (With `or_else` and a closure for the gate's name the proof
+    // stayed open: the closure does not know that the line is past the inputs.)
     #[tactic(auto, using(crate::proofs::Named::input_name_at))]
     pub(crate) fn line_name(&self, line: usize) -> Option<&Name>
-        ensures { option_map (λ n. name_bytes n.now) result ≡ slice_index_or (names (tables_model self.now)) line None }
+        ensures { option_map (λ n. n.now) result ≡ slice_index_or (names (tables_model self.now)) line None }
     {
         match self.inputs.get(line) {
             Some(name) => Some(name),
@@ -45,7 +45,8 @@ impl Tables {
         }
     }
 
-    // The first of the lines below `count` that has the name.
+    // The first of the lines below `count` that has the name. (By number, since inputs and gates have their names in two lists: a
+    // `position` would first chain these and map each to its name.)
     pub fn named_below(&self, count: usize, word: &[u8]) -> Option<usize>
         ensures { result ≡ line_named (take count (names (tables_model self.now))) word.now }
     {
@@ -69,52 +70,60 @@ impl Tables {
 
 impl Circuit {
     pub fn input_count(&self) -> usize
-        ensures value { result ≡ length (circuit_model self.now).inputs }
+        ensures value { result ≡ length self.now.inputs }
         ensures bound { result ≤ 64 }
     {
         self.tables.inputs.len()
     }
 
-    // Inputs and gates together.
+    // Inputs and gates together. (This and the three questions after it pass on to the tables, which a caller may not have: with
+    // its tables in hand, one would ask each question through them.)
     pub fn line_count(&self) -> usize
-        ensures { result ≡ line_count (circuit_model self.now) }
+        ensures { result ≡ line_count self.now }
     {
         self.tables.line_count()
     }
 
     // The name of a line, if there is such a line and it has one.
     pub fn line_name(&self, line: usize) -> Option<&Name>
-        ensures { option_map (λ n. name_bytes n.now) result ≡ slice_index_or (names (circuit_model self.now)) line None }
+        ensures { option_map (λ n. n.now) result ≡ slice_index_or (names self.now) line None }
     {
         self.tables.line_name(line)
     }
 
     // The line of that name.
     pub fn line_named(&self, word: &[u8]) -> Option<usize>
-        ensures { result ≡ line_named (names (circuit_model self.now)) word.now }
+        ensures { result ≡ line_named (names self.now) word.now }
     {
         self.tables.line_named(word)
     }
 
     // The gate whose line has that number; an input has none.
     pub fn gate(&self, line: usize) -> Option<&Gate>
-        ensures { option_map (λ g. gate_model g.now) result ≡ gate_at (circuit_model self.now) line }
+        ensures { option_map (λ g. gate_model g.now) result ≡ gate_at self.now line }
     {
         self.tables.gate(line)
     }
 
+    // How many operands the gate of a line has; an input has none.
+    pub fn operand_count(&self, line: usize) -> usize
+        ensures { result ≡ operand_count self.now line }
+    {
+        self.gate(line).map_or(0, |gate| gate.operands.len())
+    }
+
     // The gates, in the order of their lines.
     pub fn gates(&self) -> &[Gate]
-        ensures value { map gate_model result.now ≡ (circuit_model self.now).gates }
-        ensures rules { lawful (circuit_model self.now) ≡ true }
+        ensures value { map gate_model result.now ≡ self.now.gates }
+        ensures rules { lawful self.now ≡ true }
     {
         &self.tables.gates
     }
 
     // The outputs' lines, in the order in which they were written.
     pub fn outputs(&self) -> &[usize]
-        ensures value { result.now ≡ (circuit_model self.now).outputs }
-        ensures rules { lawful (circuit_model self.now) ≡ true }
+        ensures value { result.now ≡ self.now.outputs }
+        ensures rules { lawful self.now ≡ true }
     {
         &self.tables.outputs
     }

@@ -2,16 +2,11 @@
 use Rattle.std.specs.Prelude.{◌≡◌, ℕ, ◌/◌, ◌%◌, ◌^◌, Bool, cond, ◌&&◌, Some, None, Ok, Err, Option, Result, ◌==◌, bit_and, bit_or, nat_lt}
 use Rattle.refusals.specs.declared.layers.FolderRefusal.{FolderRefusal}
 use Rattle.refusals.specs.declared.layers.FolderRefusal.TheVariants.{LevelNotDriven}
-use Rattle.faults.specs.declared.cube.Cube as code
 
 -- Bit i of driven says whether input i is driven, and bit i of level to which level.
 pub record Cube : Type 0 where
   pub driven : ℕ
   pub level : ℕ
-
--- what a cube of the code stands for
-abbrev pub cube_model : code.Cube → Cube
-cube_model c = record { driven = c.driven; level = c.level }
 
 -- no input that is open has a level
 abbrev pub Within : ℕ → ℕ → Type 0

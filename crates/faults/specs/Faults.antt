@@ -1,18 +1,9 @@
 -- Which faults a circuit has, and when two are the same.
-use Rattle.std.specs.Prelude.{ℕ, Bool, true, false, cond, not, ◌&&◌, length, Some, None, Ok, Err, Option, Result, ◌==◌, nat_le, nat_lt}
+use Rattle.std.specs.Prelude.{ℕ, Bool, true, false, cond, not, ◌&&◌, Ok, Err, Result, ◌==◌, nat_le, nat_lt}
 use Rattle.refusals.specs.declared.layers.FolderRefusal.{FolderRefusal}
 use Rattle.refusals.specs.declared.layers.FolderRefusal.TheVariants.{NoSuchLine, NoSuchPin, LevelAboveOne}
-use Rattle.circuit.specs.Model.{Gate, Circuit, line_count, gate_at}
+use Rattle.circuit.specs.Model.{Circuit, line_count, operand_count}
 use Rattle.faults.specs.declared.fault.Fault.{Fault}
-
--- how many operands a gate has, if there is one
-abbrev pub operands_of : Option Gate → ℕ
-operands_of None = 0
-operands_of (Some g) = length g.operands
-
--- how many operands the gate of a line has; an input has none
-abbrev pub operand_count : Circuit → ℕ → ℕ
-operand_count c line = operands_of (gate_at c line)
 
 -- the fault of these parts
 abbrev pub fault : ℕ → ℕ → Bool → Fault

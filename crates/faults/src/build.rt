@@ -1,7 +1,6 @@
 // How cubes come to be, and what a caller can ask of one.
 ghost use Rattle.std.specs.Prelude.{◌≡◌, ◌/◌, ◌%◌, ◌^◌, MatchResult, ◌==◌, bit_and};
-ghost use Rattle.std.specs.Result.{result_map_both};
-ghost use Rattle.faults.specs.Cubes.{Within, cube_model, cube_made, nothing_driven, level_at, leaves_open, driving};
+ghost use Rattle.faults.specs.Cubes.{Within, cube_made, nothing_driven, level_at, leaves_open, driving};
 
 use crate::cube::Cube;
 use refusals::FolderRefusal;
@@ -23,7 +22,7 @@ fn bit(word: u64, index: usize) -> bool
 impl Cube {
     // The cube that drives these inputs to these levels; a level on an input that is open is refused.
     pub fn new(driven: u64, level: u64) -> Result<Cube, FolderRefusal>
-        ensures value { result_map_both cube_model (λ e. e) result ≡ cube_made driven level }
+        ensures value { result ≡ cube_made driven level }
         ensures rule { MatchResult result (λ _. Within driven level) (λ _. Within driven level → ⊥) }
     {
         if !lies_within(level, driven) {
@@ -34,7 +33,7 @@ impl Cube {
 
     // The cube that leaves every input open.
     pub fn nothing() -> Cube
-        ensures { cube_model result ≡ nothing_driven }
+        ensures { result ≡ nothing_driven }
     {
         Cube {
             driven: 0,
@@ -44,18 +43,14 @@ impl Cube {
 
     // The level that the input is driven to; nothing where it is open.
     pub fn level_at(self, input: usize) -> Option<bool>
-        ensures { result ≡ level_at (cube_model self) input }
+        ensures { result ≡ level_at self input }
     {
-        if bit(self.driven, input) {
-            Some(bit(self.level, input))
-        } else {
-            None
-        }
+        bit(self.driven, input).then(|| bit(self.level, input))
     }
 
     // Whether the cube has a place for the input, and leaves it open.
     fn leaves_open(self, input: usize) -> bool
-        ensures { result ≡ leaves_open (cube_model self) input }
+        ensures { result ≡ leaves_open self input }
     {
         input < 64 && self.level_at(input).is_none()
     }
@@ -63,7 +58,7 @@ impl Cube {
     // The cube that drives one more input to a level. An input that is driven already keeps its level, and one past the
     // 64th is never driven.
     pub fn driving(self, input: usize, level: bool) -> Cube
-        ensures { cube_model result ≡ driving (cube_model self) input level }
+        ensures { result ≡ driving self input level }
     {
         if !self.leaves_open(input) {
             return self;

@@ -1,7 +1,6 @@
 // Stuck-at faults of a circuit.
 ghost use Rattle.std.specs.Prelude.{◌≡◌, Decides};
-ghost use Rattle.circuit.specs.Circuits.{circuit_model};
-ghost use Rattle.faults.specs.Faults.{operand_count, fault_made, same_fault};
+ghost use Rattle.faults.specs.Faults.{fault_made, same_fault};
 ghost use Rattle.faults.specs.declared.fault.Fault.{Fault as FaultModel};
 
 use circuit::Circuit;
@@ -27,13 +26,13 @@ pub struct Fault {
 impl Fault {
     // The fault of that line and pin, stuck at that level, if the circuit has such a pin.
     pub fn new(circuit: &Circuit, asked: StuckAt) -> Result<Fault, FolderRefusal>
-        ensures { result ≡ fault_made (circuit_model circuit.now) asked.line asked.pin asked.level }
+        ensures { result ≡ fault_made circuit.now asked.line asked.pin asked.level }
     {
         let StuckAt { line, pin, level } = asked;
         if line >= circuit.line_count() {
             return Err(FolderRefusal::NoSuchLine);
         }
-        if pin > operand_count(circuit, line) {
+        if pin > circuit.operand_count(line) {
             return Err(FolderRefusal::NoSuchPin);
         }
         if level > 1 {
@@ -61,13 +60,6 @@ impl Fault {
     {
         self.level
     }
-}
-
-// How many operands the gate of a line has; an input has none.
-fn operand_count(circuit: &Circuit, line: usize) -> usize
-    ensures { result ≡ operand_count (circuit_model circuit.now) line }
-{
-    circuit.gate(line).map_or(0, |gate| gate.operands.len())
 }
 
 // Runs nothing: its contract is a theorem that the crate owes. `==` says yes of a fault and itself, and of no two others.

@@ -5,13 +5,14 @@ use Rattle.refusals.specs.declared.layers.FolderRefusal.{FolderRefusal}
 use Rattle.values.specs.Kind.{Kind}
 use Rattle.faults.specs.declared.fault.Fault.{Fault}
 use Rattle.faults.specs.Cubes.{Cube}
+use Rattle.simulator.specs.Simulation.{simulation_allowed}
 use Rattle.visit.specs.Visiting as visiting
 use Rattle.visit.specs.Visits.{answer_in}
 use Rattle.folder.specs.declared.entry.Entry as code
 use Rattle.folder.specs.Entries.{Entry, entry_model, state_model, with_state}
 use Rattle.folder.specs.Folders.{Folder}
 use Rattle.folder.specs.Transitions.{granted, and_then, entry_at}
-use Rattle.folder.specs.Covering.{count_of, fewest_cube, simulation_allowed, is_covered, marked, cover_entry}
+use Rattle.folder.specs.Covering.{count_of, fewest_cube, is_covered, marked, cover_entry}
 use Rattle.folder.specs.Searching.{filed, search_allowed, file_answer, search_entry}
 use Rattle.folder.proofs.Refusing.{then_granted}
 

@@ -1,12 +1,12 @@
 -- What covering by an entry does to the table.
-use Rattle.std.specs.Prelude.{ℕ, ◌+◌, Bool, cond, not, ◌&&◌, List, [], ◌∷◌, map, Some, Ok, Err, Result, nat_lt}
+use Rattle.std.specs.Prelude.{ℕ, ◌+◌, Bool, cond, not, ◌&&◌, List, [], ◌∷◌, map, Some, Ok, Err, Result}
 use Rattle.refusals.specs.declared.layers.FolderRefusal.{FolderRefusal}
-use Rattle.refusals.specs.declared.layers.FolderRefusal.TheVariants.{RowTooShort, EntryNotFewest, InputMissing}
+use Rattle.refusals.specs.declared.layers.FolderRefusal.TheVariants.{EntryNotFewest}
 use Rattle.values.specs.Kind.{Kind}
-use Rattle.circuit.specs.Model.{Circuit, line_count}
+use Rattle.circuit.specs.Model.{Circuit}
 use Rattle.faults.specs.Cubes.{Cube}
 use Rattle.simulator.specs.Detection.{detected}
-use Rattle.simulator.specs.Simulation.{drives_beyond}
+use Rattle.simulator.specs.Simulation.{simulation_allowed}
 use Rattle.folder.specs.Entries.{State, Open, Spent, Fewest, Redundant, Covered, Entry, with_state, state_settled}
 use Rattle.folder.specs.Folders.{Folder}
 use Rattle.folder.specs.Transitions.{Granted, granted, and_then, entry_at}
@@ -23,10 +23,6 @@ fewest_cube (Spent cube tries) = Err EntryNotFewest
 fewest_cube (Fewest cube tries) = Ok cube
 fewest_cube (Redundant tries) = Err EntryNotFewest
 fewest_cube (Covered by) = Err EntryNotFewest
-
--- whether the cube can be simulated in a row of so many places
-abbrev pub simulation_allowed : Circuit → Cube → ℕ → Result (Unit {0}) FolderRefusal
-simulation_allowed c q places = cond (drives_beyond c q) (Err InputMissing) (cond (nat_lt places (line_count c)) (Err RowTooShort) (Ok tt))
 
 -- an entry that is open or spent, and whose fault the kind shows the cube to detect
 abbrev pub is_covered : Kind → Circuit → Cube → Entry → Bool

@@ -9,7 +9,7 @@ ghost use Rattle.simulator.specs.Simulation.{drives_beyond};
 ghost use Rattle.folder.specs.Entries.{entry_model, state_model};
 ghost use Rattle.folder.specs.Folders.{folder_model};
 ghost use Rattle.folder.specs.Transitions.{Obeys};
-ghost use Rattle.folder.specs.Covering.{count_of, fewest_cube, simulation_allowed, is_covered, marked, cover_entry};
+ghost use Rattle.folder.specs.Covering.{count_of, fewest_cube, is_covered, marked, cover_entry};
 
 use crate::entry::Entry;
 use crate::folder::Folder;
@@ -17,7 +17,7 @@ use crate::state::State;
 use circuit::Circuit;
 use faults::{Cube, Fault};
 use refusals::FolderRefusal;
-use simulator::{Socket, Verdict, drives_beyond, simulate_fault};
+use simulator::{Socket, Verdict, allow_simulation, simulate_fault};
 use values::kind::ValueKind;
 
 // The cube of an entry that is fewest.
@@ -28,19 +28,6 @@ fn fewest_cube(entry: Entry) -> Result<Cube, FolderRefusal>
         State::Fewest { cube, .. } => Ok(cube),
         _ => Err(FolderRefusal::EntryNotFewest),
     }
-}
-
-// Whether a cube can be simulated in a row of so many places.
-fn allow_simulation(circuit: &Circuit, cube: Cube, places: usize) -> Result<(), FolderRefusal>
-    ensures { result ≡ simulation_allowed (circuit_model circuit.now) (cube_model cube) places }
-{
-    if drives_beyond(circuit, cube) {
-        return Err(FolderRefusal::InputMissing);
-    }
-    if places < circuit.line_count() {
-        return Err(FolderRefusal::RowTooShort);
-    }
-    Ok(())
 }
 
 // The cube of the entry of that number, against the faults of the others. (The row, which each simulation writes, stays a

@@ -1,11 +1,13 @@
 -- What a call that is granted came from.
-use Rattle.std.proofs.Common.{◌≡◌, ℕ, Bool, true, false, cond, not, ltb, leb, List, [], ◌∷◌, ◌++◌, length, Some, None, Ok, Err, Option, Result, sym, refl, ap, arith}
+use Rattle.std.proofs.Common.{◌≡◌, ℕ, Bool, true, false, cond, not, leb, List, [], ◌∷◌, ◌++◌, length, Some, None, Ok, Err, Option, Result, sym, refl, ap, arith}
+use Rattle.std.specs.Result.{result_map_both}
 use Rattle.refusals.specs.declared.layers.FolderRefusal.{FolderRefusal}
-use Rattle.refusals.specs.declared.layers.FolderRefusal.TheVariants.{AlreadyEntered, FolderFull, EntrySettled, BudgetOutOfRange, BudgetNotAbove, RowTooShort}
+use Rattle.refusals.specs.declared.layers.FolderRefusal.TheVariants.{AlreadyEntered, FolderFull, EntrySettled, BudgetOutOfRange, BudgetNotAbove}
 use Rattle.values.specs.Kind.{Kind}
-use Rattle.circuit.specs.Model.{Circuit, line_count}
+use Rattle.circuit.specs.Model.{Circuit}
 use Rattle.faults.specs.declared.fault.Fault.{Fault}
 use Rattle.faults.specs.Cubes.{Cube}
+use Rattle.simulator.specs.Simulation.{row_allowed}
 use Rattle.visit.specs.Visiting.{Answer, answer}
 use Rattle.visit.specs.Visits.{answer_in}
 use Rattle.folder.specs.Entries.{State, Open, Spent, Fewest, Redundant, Covered, Entry, opened, has_fault, state_settled, state_count}
@@ -59,11 +61,11 @@ allowed_unsettled s budget u h = go (state_settled s) refl h
     go false e h = e
 
 pub answered_is : (K : Kind) (c : Circuit) (f : Fault) (budget places : ℕ) (a : Answer) → answer_in K c f budget places ≡ Ok a → answer K c f budget ≡ a
-answered_is K c f budget places a h = go (ltb places (line_count c)) h
+answered_is K c f budget places a h = go (row_allowed c places) h
   where
-    go : (b : Bool) → cond b (Err RowTooShort) (Ok (answer K c f budget)) ≡ Ok a → answer K c f budget ≡ a
-    go true h = absurd (no_grant RowTooShort a h)
-    go false h = ok_same (answer K c f budget) a h
+    go : (r : Result (Unit {0}) FolderRefusal) → result_map_both (λ _. answer K c f budget) (λ (e : FolderRefusal). e) r ≡ Ok a → answer K c f budget ≡ a
+    go (Err e) h = absurd (no_grant e a h)
+    go (Ok u) h = ok_same (answer K c f budget) a h
 
 pub fewest_state : (s : State) (q : Cube) → fewest_cube s ≡ Ok q → (tries : ℕ) × (s ≡ Fewest q tries)
 fewest_state Open q h = absurd (zero_not_one cc)

@@ -13,6 +13,7 @@ use Rattle.faults.specs.declared.fault.Fault.{Fault}
 use Rattle.faults.specs.Cubes.{Cube}
 use Rattle.faults.specs.declared.fault.StuckAt.{StuckAt}
 use Rattle.faults.specs.Faults.{fault_made}
+use Rattle.simulator.specs.Simulation.{simulation_allowed}
 use Rattle.visit.specs.Visiting as visiting
 use Rattle.visit.specs.Visits.{answer_in}
 use Rattle.visit.specs.Meaning.{Test, Undetectable, Means}
@@ -21,7 +22,7 @@ use Rattle.folder.specs.Entries.{State, Open, Spent, Fewest, Redundant, Covered,
 use Rattle.folder.specs.Folders.{Folder}
 use Rattle.folder.specs.Transitions.{Granted, granted, Follows, entry_at, enter_fault}
 use Rattle.folder.specs.Searching.{search_allowed, file_answer, search_entry}
-use Rattle.folder.specs.Covering.{fewest_cube, simulation_allowed, mark_covered, cover_entry}
+use Rattle.folder.specs.Covering.{fewest_cube, mark_covered, cover_entry}
 use Rattle.law.specs.declared.call.Call.{Call}
 use Rattle.law.specs.declared.call.Call.TheVariants.{Enter, Search, Cover}
 use Rattle.law.specs.Histories as histories

@@ -3,3 +3,4 @@ pub mod Detection
 pub mod Laws
 pub mod Simulation
 pub mod Words
+pub mod Callers

@@ -1,5 +1,6 @@
 -- What a simulation answers, and what it leaves in the row.
 use Rattle.std.specs.Prelude.{◌≡◌, ℕ, ◌^◌, ◌≤◌, Bool, true, cond, List, map, length, take, drop, IfOk, Ok, Err, Option, Result, MatchResult, nat_le, nat_lt}
+use Rattle.std.specs.Result.{result_map_both}
 use Rattle.refusals.specs.declared.layers.FolderRefusal.{FolderRefusal}
 use Rattle.refusals.specs.declared.layers.FolderRefusal.TheVariants.{RowTooShort, InputMissing}
 use Rattle.values.specs.Pairs.{Pairs}
@@ -19,11 +20,18 @@ drives_beyond c q = nat_le (2 ^ length c.inputs) q.driven
 abbrev pub DrivesBeyond : Circuit → Cube → Type 0
 DrivesBeyond c q = (i : ℕ) × (length c.inputs ≤ i) × (bit q.driven i ≡ true)
 
--- The verdict on a cube, worked out in a row of so many places; refused if the cube drives an input that the circuit
--- lacks, and then if the row has fewer places than the circuit has lines.
+-- whether a row of so many places has room for each line of the circuit
+abbrev pub row_allowed : Circuit → ℕ → Result (Unit {0}) FolderRefusal
+row_allowed c places = cond (nat_lt places (line_count c)) (Err RowTooShort) (Ok tt)
+
+-- Whether a cube can be simulated in a row of so many places: refused if the cube drives an input that the circuit lacks,
+-- and then if the row has fewer places than the circuit has lines.
+abbrev pub simulation_allowed : Circuit → Cube → ℕ → Result (Unit {0}) FolderRefusal
+simulation_allowed c q places = cond (drives_beyond c q) (Err InputMissing) (row_allowed c places)
+
+-- the verdict on a cube, worked out in a row of so many places, where that is allowed
 abbrev pub simulation : Kind → Circuit → Option Fault → Cube → ℕ → Result Verdict FolderRefusal
-simulation K c f q places =
-    cond (drives_beyond c q) (Err InputMissing) (cond (nat_lt places (line_count c)) (Err RowTooShort) (Ok (verdict K c f q)))
+simulation K c f q places = result_map_both (λ _. verdict K c f q) (λ e. e) (simulation_allowed c q places)
 
 -- The row begins with these sets' values, and what stood behind them is unchanged.
 pub record Worked {V : Type 0} (meaning : V → Pairs) (sets : List Pairs) (count : ℕ) (before after : List V) : Type 0 where

@@ -6,6 +6,8 @@ pub mod simulation;
 pub mod socket;
 pub mod verdict;
 
-pub use simulation::{drives_beyond, simulate, simulate_fault, simulation_tells};
+pub use simulation::{
+    allow_row, allow_simulation, drives_beyond, simulate, simulate_fault, simulation_tells,
+};
 pub use socket::{Plug, Socket};
 pub use verdict::Verdict;

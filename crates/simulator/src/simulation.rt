@@ -3,11 +3,9 @@ ghost use Rattle.std.specs.Prelude.{◌≡◌, ℕ, ◌+◌, ◌<◌, ◌≤◌,
 ghost use Rattle.circuit.specs.Model.{Gate as GateModel};
 ghost use Rattle.circuit.specs.Lawful.{gate_fits, each_after};
 ghost use Rattle.circuit.specs.Tables.{gate_model};
-ghost use Rattle.circuit.specs.Circuits.{circuit_model};
-ghost use Rattle.faults.specs.Cubes.{cube_model};
 ghost use Rattle.simulator.specs.Lines.{inputs_row, gate_value, gates_after};
 ghost use Rattle.simulator.specs.Detection.{input_value, set_of, judged};
-ghost use Rattle.simulator.specs.Simulation.{drives_beyond, DrivesBeyond, Simulates};
+ghost use Rattle.simulator.specs.Simulation.{drives_beyond, DrivesBeyond, row_allowed, simulation_allowed, Simulates};
 ghost use Rattle.simulator.specs.Laws.{Telling};
 
 use crate::gates::{at_pin, gate_value};
@@ -20,7 +18,7 @@ use values::kind::ValueKind;
 
 // What a cube gives an input.
 fn input_value<V: ValueKind>(cube: Cube, input: usize) -> V
-    ensures { V.ValueKind.meaning result ≡ input_value V.ValueKind.kind (cube_model cube) input }
+    ensures { V.ValueKind.meaning result ≡ input_value V.ValueKind.kind cube input }
 {
     match cube.level_at(input) {
         Some(level) => V::known(level),
@@ -30,7 +28,7 @@ fn input_value<V: ValueKind>(cube: Cube, input: usize) -> V
 
 // Works out the lines of the inputs.
 fn drive<V: ValueKind>(cube: Cube, fault: Option<Fault>, row: &mut [V])
-    ensures { map V.ValueKind.meaning row.new ≡ inputs_row V.ValueKind.kind.values fault (input_value V.ValueKind.kind (cube_model cube)) (length row.old) }
+    ensures { map V.ValueKind.meaning row.new ≡ inputs_row V.ValueKind.kind.values fault (input_value V.ValueKind.kind cube) (length row.old) }
 {
     for (input, value) in row.iter_mut().enumerate() {
         *value = at_pin(fault, input, 0, input_value(cube, input));
@@ -74,11 +72,31 @@ fn judge<V: ValueKind>(outputs: &[usize], row: &[V]) -> Verdict
 
 // Whether the cube drives an input that the circuit lacks.
 pub fn drives_beyond(circuit: &Circuit, cube: Cube) -> bool
-    ensures value { result ≡ drives_beyond (circuit_model circuit.now) (cube_model cube) }
-    ensures rule { Decides result (DrivesBeyond (circuit_model circuit.now) (cube_model cube)) }
+    ensures value { result ≡ drives_beyond circuit.now cube }
+    ensures rule { Decides result (DrivesBeyond circuit.now cube) }
 {
     let past = cube.driven().checked_shr(circuit.input_count() as u32);
     past.unwrap_or(0) > 0
+}
+
+// Whether a row of so many places has room for each line of the circuit.
+pub fn allow_row(circuit: &Circuit, places: usize) -> Result<(), FolderRefusal>
+    ensures { result ≡ row_allowed circuit.now places }
+{
+    if places < circuit.line_count() {
+        return Err(FolderRefusal::RowTooShort);
+    }
+    Ok(())
+}
+
+// Whether a cube can be simulated in a row of so many places.
+pub fn allow_simulation(circuit: &Circuit, cube: Cube, places: usize) -> Result<(), FolderRefusal>
+    ensures { result ≡ simulation_allowed circuit.now cube places }
+{
+    if drives_beyond(circuit, cube) {
+        return Err(FolderRefusal::InputMissing);
+    }
+    allow_row(circuit, places)
 }
 
 // Works out each line's value under the cube, with the fault in the socket if there is one, and gives the verdict on the
@@ -90,16 +108,10 @@ pub fn simulate<V: ValueKind>(
     socket: &Socket,
     row: &mut [V],
 ) -> Result<Verdict, FolderRefusal>
-    ensures { Simulates V.ValueKind.kind V.ValueKind.meaning (circuit_model circuit.now) socket.now.fault (cube_model cube) row.old row.new result }
+    ensures { Simulates V.ValueKind.kind V.ValueKind.meaning circuit.now socket.now.fault cube row.old row.new result }
 {
-    if drives_beyond(circuit, cube) {
-        return Err(FolderRefusal::InputMissing);
-    }
-    let lines = circuit.line_count();
-    if row.len() < lines {
-        return Err(FolderRefusal::RowTooShort);
-    }
-    let row = &mut row[..lines];
+    allow_simulation(circuit, cube, row.len())?;
+    let row = &mut row[..circuit.line_count()];
     let inputs = circuit.input_count();
     drive(cube, socket.fault, &mut row[..inputs]);
     settle(inputs, circuit.gates(), socket.fault, row);
@@ -114,7 +126,7 @@ pub fn simulate_fault<V: ValueKind>(
     socket: &mut Socket,
     row: &mut [V],
 ) -> Result<Verdict, FolderRefusal>
-    ensures simulates { Simulates V.ValueKind.kind V.ValueKind.meaning (circuit_model circuit.now) (Some fault) (cube_model cube) row.old row.new result }
+    ensures simulates { Simulates V.ValueKind.kind V.ValueKind.meaning circuit.now (Some fault) cube row.old row.new result }
     ensures empty { socket.new.fault ≡ None }
 {
     let plug = socket.plug(fault);

@@ -1,7 +1,7 @@
 -- Driving one more input, above those that a cube drives.
 use Rattle.std.proofs.Common.{◌≡◌, ℕ, ◌+◌, ◌*◌, ◌/◌, ◌%◌, ◌^◌, ◌<◌, Bool, true, false, cond, ◌&&◌, eqb, sym, refl, ap, ◌∙◌, add-zero, add_comm, one-mul, pow-suc, zero-mul, arith}
 use native.Mathlib.Nat.{div-eq_of_lt}
-use lib.Bits.{bit_and, bit_or, or_shifted_r, or_zero_r, and_le_r}
+use lib.Bits.{bit_or, or_shifted_r, or_zero_r}
 use Rattle.std.proofs.lemmas.Bool.{lt-ltb}
 use Rattle.faults.specs.Cubes.{Cube, leaves_open, driving}
 use Rattle.visit.specs.Visiting.{drive}
@@ -31,6 +31,6 @@ double k = ap (λ (j : ℕ). 2 ^ j) (omega arith) ∙ pow-suc 2 k ∙ omega arit
 pub drive_lower : (q : Cube) (i : ℕ) → q.driven < 2 ^ i → q.driven + 2 ^ i < 2 ^ (i + 1)
 drive_lower q i h = omega (arith, double i)
 
--- the levels of a cube are below what bounds its driven word
-pub level_below : (driven level n : ℕ) → bit_and level driven ≡ level → driven < n → level < n
-level_below driven level n e h = omega (arith, and_le_r level driven, e)
+pub drive_level_lower : (q : Cube) (i : ℕ) (level : Bool) → q.level < 2 ^ i → q.level + cond level 1 0 * 2 ^ i < 2 ^ (i + 1)
+drive_level_lower q i true h = omega (arith, double i)
+drive_level_lower q i false h = omega (arith, double i)

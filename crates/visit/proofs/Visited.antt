@@ -1,18 +1,18 @@
 -- What the whole visit comes to, as the code makes it.
-use Rattle.std.proofs.Common.{◌≡◌, ℕ, ◌-◌, ◌≤◌, Bool, cond, length, Some, Ok, Err, Option, sym, ap, ◌∙◌, subst}
+use Rattle.std.proofs.Common.{◌≡◌, ℕ, ◌-◌, ◌≤◌, length, Some, Ok, Option, sym, ap, ◌∙◌, subst}
 use native.Mathlib.Nat.{sub-zero}
-use Rattle.std.proofs.lemmas.Bool.{le-ltb}
-use Rattle.refusals.specs.declared.layers.FolderRefusal.TheVariants.{RowTooShort}
+use Rattle.std.specs.Result.{result_map_both}
+use Rattle.refusals.specs.declared.layers.FolderRefusal.{FolderRefusal}
 use Rattle.values.specs.Pairs.{Pairs}
 use Rattle.values.specs.Kind.{Kind, Lawful}
-use Rattle.circuit.specs.Model.{Circuit, line_count}
+use Rattle.circuit.specs.Model.{Circuit}
 use Rattle.faults.specs.declared.fault.Fault.{Fault}
 use Rattle.faults.specs.Cubes.{Cube, nothing_driven}
 use Rattle.simulator.specs.Detection.{verdict}
-use Rattle.visit.specs.declared.answer.Answer as code
+use Rattle.simulator.specs.Simulation.{row_allowed}
 use Rattle.visit.specs.Visiting.{Progress, met, below, at_start, Answer, progress_answer, answer, answer_tries}
 use Rattle.visit.specs.Meaning.{Means}
-use Rattle.visit.specs.Visits.{answer_model, Visits}
+use Rattle.visit.specs.Visits.{Visits}
 use Rattle.visit.proofs.Counting.{answer_within}
 use Rattle.visit.proofs.Meanings.{answer_means}
 
@@ -21,10 +21,10 @@ module _ (K : Kind) (M : Pairs → Type 0) (l : Lawful K M) (c : Circuit) (f : F
   inputs = length c.inputs
 
   -- the cube with nothing driven is met with the fault plugged
-  pub visit_is : (plugged : Option Fault) (q : Cube) (next : ℕ) (start end : Progress) (r : code.Answer)
+  pub visit_is : (plugged : Option Fault) (q : Cube) (next : ℕ) (start end : Progress) (r : Answer)
       → plugged ≡ Some f → q ≡ nothing_driven → next ≡ 0 → start ≡ at_start
       → end ≡ met (verdict K c plugged) budget (below (verdict K c plugged) budget inputs (inputs - next)) q start
-      → answer_model r ≡ progress_answer end → answer_model r ≡ answer K c f budget
+      → r ≡ progress_answer end → r ≡ answer K c f budget
   visit_is plugged q next start end r plug nothing first begin e is =
       is ∙ ap progress_answer e
       ∙ ap (λ (n : ℕ). progress_answer (met (verdict K c plugged) budget (below (verdict K c plugged) budget inputs n) q start)) (ap (λ (n : ℕ). inputs - n) first ∙ sub-zero inputs)
@@ -32,9 +32,9 @@ module _ (K : Kind) (M : Pairs → Type 0) (l : Lawful K M) (c : Circuit) (f : F
       ∙ ap (λ (p : Cube). progress_answer (met (verdict K c (Some f)) budget (below (verdict K c (Some f)) budget inputs inputs) p start)) nothing
       ∙ ap (λ (p : Progress). progress_answer (met (verdict K c (Some f)) budget (below (verdict K c (Some f)) budget inputs inputs) nothing_driven p)) begin
 
-  pub visits : (r : code.Answer) → line_count c ≤ places → answer_model r ≡ answer K c f budget → Visits K c f budget places (Ok r)
-  visits r h e = record {
-    answer = sym (ap (λ (b : Bool). cond b (Err RowTooShort) (Ok (answer K c f budget))) (le-ltb places (line_count c) h) ∙ ap (λ (a : Answer). Ok a) (sym e));
+  pub visits : (r : Answer) → Ok tt ≡ row_allowed c places → r ≡ answer K c f budget → Visits K c f budget places (Ok r)
+  visits r allowed e = record {
+    answer = ap Ok e ∙ ap (result_map_both (λ _. answer K c f budget) (λ (e : FolderRefusal). e)) allowed;
     means = subst (λ (a : Answer). Means K c f a) (sym e) (answer_means K M l c f budget);
     within = subst (λ (a : Answer). answer_tries a ≤ budget) (sym e) (answer_within K c f budget);
   }

@@ -1,4 +1,5 @@
 pub mod Visiting
 pub mod Meaning
 pub mod Visits
+pub mod Settings
 pub mod KnownAnswers

@@ -7,6 +7,8 @@ use Rattle.faults.specs.Cubes.{Cube, nothing_driven}
 use Rattle.simulator.specs.declared.verdict.Verdict.{Verdict}
 use Rattle.simulator.specs.declared.verdict.Verdict.TheVariants.{Shows, Still, Unsure}
 use Rattle.simulator.specs.Detection.{verdict}
+pub use Rattle.visit.specs.declared.answer.Answer.{Answer}
+pub use Rattle.visit.specs.declared.answer.Answer.TheVariants.{Fewest, Redundant, Spent}
 
 -- how far a visit has come: the best cube so far, the tries made, and whether a try was due when none was left
 pub record Progress : Type 0 where
@@ -54,13 +56,6 @@ at_start = record { best = None; tries = 0; spent = false }
 -- the visit, from the cube that leaves every input open
 abbrev pub visited : (Cube → Verdict) → ℕ → ℕ → Progress
 visited judge budget inputs = met judge budget (below judge budget inputs inputs) nothing_driven at_start
-
--- What a visit answers, with the number of tries: a cube that drives the fewest inputs; that no cube shows; or that the
--- budget was used up, with the best cube so far.
-pub data Answer : Type 0 where
-  Fewest : Cube → ℕ → Answer
-  Redundant : ℕ → Answer
-  Spent : Option Cube → ℕ → Answer
 
 -- the tries that an answer reports
 abbrev pub answer_tries : Answer → ℕ

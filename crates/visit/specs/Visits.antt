@@ -1,39 +1,30 @@
 -- What a call that visits gives.
-use Rattle.std.specs.Prelude.{◌≡◌, ℕ, ◌≤◌, false, cond, is_err, IfOk, Ok, Err, Result, nat_lt}
-use Rattle.std.specs.Option as options
+use Rattle.std.specs.Prelude.{◌≡◌, ℕ, ◌≤◌, false, is_err, IfOk, Result}
 use Rattle.std.specs.Result.{result_map_both}
 use Rattle.refusals.specs.declared.layers.FolderRefusal.{FolderRefusal}
-use Rattle.refusals.specs.declared.layers.FolderRefusal.TheVariants.{RowTooShort}
 use Rattle.values.specs.Kind.{Kind}
-use Rattle.circuit.specs.Model.{Circuit, line_count}
+use Rattle.circuit.specs.Model.{Circuit}
 use Rattle.faults.specs.declared.fault.Fault.{Fault}
-use Rattle.faults.specs.Cubes.{cube_model}
-use Rattle.visit.specs.declared.answer.Answer as code
-use Rattle.visit.specs.declared.answer.Answer.TheVariants as code_answer
-use Rattle.visit.specs.declared.progress.Progress as code_progress
+use Rattle.simulator.specs.Simulation.{row_allowed}
+use Rattle.visit.specs.declared.progress.Progress as code
 use Rattle.visit.specs.declared.progress.BudgetSpent.{BudgetSpent}
-use Rattle.visit.specs.Visiting.{Progress, Answer, Fewest, Redundant, Spent, answer, answer_tries}
+use Rattle.visit.specs.Visiting.{Progress, Answer, answer, answer_tries}
 use Rattle.visit.specs.Meaning.{Means}
 
 -- how far a visit has come that goes on
-abbrev pub going_on : code_progress.Progress → Progress
-going_on p = record { best = options.option_map cube_model p.best; tries = p.tries; spent = false }
+abbrev pub going_on : code.Progress → Progress
+going_on p = record { best = p.best; tries = p.tries; spent = false }
 
 -- how far a visit had come that ended: given up for want of a try, or at its end
-abbrev pub left : code_progress.Progress → Result (Unit {0}) BudgetSpent → Progress
-left p r = record { best = options.option_map cube_model p.best; tries = p.tries; spent = is_err r }
+abbrev pub left : code.Progress → Result (Unit {0}) BudgetSpent → Progress
+left p r = record { best = p.best; tries = p.tries; spent = is_err r }
 
-abbrev pub answer_model : code.Answer → Answer
-answer_model (code_answer.Fewest cube tries) = Fewest (cube_model cube) tries
-answer_model (code_answer.Redundant tries) = Redundant tries
-answer_model (code_answer.Spent best tries) = Spent (options.option_map cube_model best) tries
-
--- the answer for a fault, worked out in a row of so many places; refused if the circuit has more lines
+-- the answer for a fault, worked out in a row of so many places, where that has room for each line
 abbrev pub answer_in : Kind → Circuit → Fault → ℕ → ℕ → Result Answer FolderRefusal
-answer_in K c f budget places = cond (nat_lt places (line_count c)) (Err RowTooShort) (Ok (answer K c f budget))
+answer_in K c f budget places = result_map_both (λ _. answer K c f budget) (λ e. e) (row_allowed c places)
 
 -- the definition's answer, what that says of the fault, and that the budget was kept to
-pub record Visits (K : Kind) (c : Circuit) (f : Fault) (budget places : ℕ) (r : Result code.Answer FolderRefusal) : Type 0 where
-  pub answer : result_map_both answer_model (λ (e : FolderRefusal). e) r ≡ answer_in K c f budget places
-  pub means : IfOk r (λ a. Means K c f (answer_model a))
-  pub within : IfOk r (λ a. answer_tries (answer_model a) ≤ budget)
+pub record Visits (K : Kind) (c : Circuit) (f : Fault) (budget places : ℕ) (r : Result Answer FolderRefusal) : Type 0 where
+  pub answer : r ≡ answer_in K c f budget places
+  pub means : IfOk r (Means K c f)
+  pub within : IfOk r (λ a. answer_tries a ≤ budget)

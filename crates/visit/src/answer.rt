@@ -1,7 +1,7 @@
 // What a visit answers, with the number of tries that it made.
 use faults::Cube;
 
-#[derive(Clone, Copy)]
+#[derive(Clone, Copy, Debug, PartialEq, Eq)]
 pub enum Answer {
     // a test that drives as few inputs as any
     Fewest { cube: Cube, tries: usize },

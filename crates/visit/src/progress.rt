@@ -1,14 +1,13 @@
 // How far a visit has come.
 ghost use Rattle.std.specs.Prelude.{◌≡◌};
 ghost use Rattle.std.specs.Option.{option_map};
-ghost use Rattle.faults.specs.Cubes.{cube_model};
 ghost use Rattle.visit.specs.Visiting.{fewer, at_start, progress_answer};
-ghost use Rattle.visit.specs.Visits.{going_on, left, answer_model};
+ghost use Rattle.visit.specs.Visits.{going_on, left};
 
 use crate::answer::Answer;
 use faults::Cube;
 
-#[derive(Clone, Copy)]
+#[derive(Clone, Copy, Debug, PartialEq, Eq)]
 pub struct Progress {
     // the cube that shows with the fewest driven inputs so far
     pub best: Option<Cube>,
@@ -16,7 +15,7 @@ pub struct Progress {
 }
 
 // Why a visit is given up: a try is due, and the budget allows none.
-#[derive(Clone, Copy)]
+#[derive(Clone, Copy, Debug, PartialEq, Eq)]
 pub struct BudgetSpent;
 
 impl Progress {
@@ -31,18 +30,16 @@ impl Progress {
     }
 
     // Whether a cube drives fewer inputs than the best, or there is no best.
-    pub fn lacks(&self, cube: Cube) -> bool
-        ensures { result ≡ fewer (cube_model cube) (option_map cube_model self.now.best) }
+    pub fn is_beaten_by(&self, cube: Cube) -> bool
+        ensures { result ≡ fewer cube self.now.best }
     {
-        match self.best {
-            Some(best) => cube.driven().count_ones() < best.driven().count_ones(),
-            None => true,
-        }
+        self.best
+            .is_none_or(|best| cube.driven().count_ones() < best.driven().count_ones())
     }
 
     // The answer of a visit that ended so.
     pub fn answer(&self, end: Result<(), BudgetSpent>) -> Answer
-        ensures { answer_model result ≡ progress_answer (left self.now end) }
+        ensures { result ≡ progress_answer (left self.now end) }
     {
         let tries = self.tries;
         match (end, self.best) {

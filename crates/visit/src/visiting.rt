@@ -1,11 +1,11 @@
 // The visit: depth first, inputs in rising order, 0 before 1.
-ghost use Rattle.std.specs.Prelude.{◌≡◌, ◌+◌, ◌-◌, ◌≤◌, false, length, if◌then◌else◌, None, MatchResult};
-ghost use Rattle.circuit.specs.Circuits.{circuit_model};
+ghost use Rattle.std.specs.Prelude.{◌≡◌, ◌+◌, ◌≤◌, false, length, if◌then◌else◌};
 ghost use Rattle.circuit.specs.Model.{line_count};
-ghost use Rattle.faults.specs.Cubes.{cube_model, nothing_driven};
-ghost use Rattle.simulator.specs.Detection.{verdict};
+ghost use Rattle.faults.specs.Cubes.{nothing_driven};
 ghost use Rattle.simulator.specs.Simulation.{drives_beyond};
-ghost use Rattle.visit.specs.Visiting.{drive, met, below};
+ghost use Rattle.simulator.specs.Callers.{RowKept, SocketEmptied};
+ghost use Rattle.visit.specs.Visiting.{drive};
+ghost use Rattle.visit.specs.Settings.{verdict_in, input_count, below_branch, branch_met};
 ghost use Rattle.visit.specs.Visits.{going_on, left, Visits};
 
 use crate::answer::Answer;
@@ -14,13 +14,13 @@ use crate::progress::{BudgetSpent, Progress};
 use circuit::Circuit;
 use faults::{Cube, Fault};
 use refusals::FolderRefusal;
-use simulator::{Socket, Verdict, simulate};
+use simulator::{Socket, Verdict, allow_row, simulate};
 use values::kind::ValueKind;
 
 impl Branch {
     // All cubes: the one with nothing driven, and those below it.
     fn whole() -> Branch
-        ensures cube { cube_model result.cube ≡ nothing_driven }
+        ensures cube { result.cube ≡ nothing_driven }
         ensures next { result.next ≡ 0 }
     {
         Branch {
@@ -30,10 +30,10 @@ impl Branch {
     }
 
     // The branch with that input driven too, which is above each input that is driven already.
-    fn driving(self, input: usize, level: bool) -> Branch
-        requires above { self.next ≤ input }
+    fn driving(&self, input: usize, level: bool) -> Branch
+        requires above { self.now.next ≤ input }
         requires room { input ≤ 63 }
-        ensures cube { cube_model result.cube ≡ drive (cube_model self.cube) input (if level then 1 else 0) }
+        ensures cube { result.cube ≡ drive self.now.cube input (if level then 1 else 0) }
         ensures next { result.next ≡ input + 1 }
     {
         Branch {
@@ -43,8 +43,8 @@ impl Branch {
     }
 }
 
-// What a visit leaves as it is: the circuit, the socket with the fault, and how many tries it may make. (The row, which each
-// try writes, stays a parameter: beside it in a struct, each method would have to say that these three stay.)
+// What a visit leaves as it is: the circuit, the socket with the fault, and how many tries it may make. (In a struct with the
+// row too, `room` would leave the same three contracts into which a clause would come that these three stay as they are.)
 #[derive(Clone, Copy)]
 struct Setting<'a> {
     circuit: &'a Circuit,
@@ -55,9 +55,9 @@ struct Setting<'a> {
 impl Setting<'_> {
     // The verdict on a cube of the circuit's inputs, in a row with room for each line.
     fn verdict_on<V: ValueKind>(&self, cube: Cube, row: &mut [V]) -> Verdict
-        requires inside { drives_beyond (circuit_model self.now.circuit.now) (cube_model cube) ≡ false }
-        requires room { line_count (circuit_model self.now.circuit.now) ≤ length row.old }
-        ensures { result ≡ verdict V.ValueKind.kind (circuit_model self.now.circuit.now) self.now.socket.now.fault (cube_model cube) }
+        requires inside { drives_beyond self.now.circuit.now cube ≡ false }
+        requires room { line_count self.now.circuit.now ≤ length row.old }
+        ensures { result ≡ verdict_in V.ValueKind.kind self.now cube }
     {
         match simulate(self.circuit, cube, self.socket, row) {
             Ok(verdict) => verdict,
@@ -73,11 +73,11 @@ impl Setting<'_> {
         progress: &mut Progress,
         row: &mut [V],
     ) -> Result<(), BudgetSpent>
-        requires room { line_count (circuit_model self.now.circuit.now) ≤ length row.old }
-        requires inside { branch.next ≤ length (circuit_model self.now.circuit.now).inputs }
-        ensures { left progress.new result ≡ met (verdict V.ValueKind.kind (circuit_model self.now.circuit.now) self.now.socket.now.fault) self.now.budget (below (verdict V.ValueKind.kind (circuit_model self.now.circuit.now) self.now.socket.now.fault) self.now.budget (length (circuit_model self.now.circuit.now).inputs) (length (circuit_model self.now.circuit.now).inputs - branch.next)) (cube_model branch.cube) (going_on progress.old) }
+        requires room { line_count self.now.circuit.now ≤ length row.old }
+        requires inside { branch.next ≤ input_count self.now }
+        ensures { left progress.new result ≡ branch_met V.ValueKind.kind self.now branch (going_on progress.old) }
     {
-        if !progress.lacks(branch.cube) {
+        if !progress.is_beaten_by(branch.cube) {
             return Ok(());
         }
         if progress.tries >= self.budget {
@@ -102,9 +102,9 @@ impl Setting<'_> {
         progress: &mut Progress,
         row: &mut [V],
     ) -> Result<(), BudgetSpent>
-        requires room { line_count (circuit_model self.now.circuit.now) ≤ length row.old }
-        requires inside { branch.next ≤ length (circuit_model self.now.circuit.now).inputs }
-        ensures { left progress.new result ≡ below (verdict V.ValueKind.kind (circuit_model self.now.circuit.now) self.now.socket.now.fault) self.now.budget (length (circuit_model self.now.circuit.now).inputs) (length (circuit_model self.now.circuit.now).inputs - branch.next) (cube_model branch.cube) (going_on progress.old) }
+        requires room { line_count self.now.circuit.now ≤ length row.old }
+        requires inside { branch.next ≤ input_count self.now }
+        ensures { left progress.new result ≡ below_branch V.ValueKind.kind self.now branch (going_on progress.old) }
     {
         for input in branch.next..self.circuit.input_count() {
             self.meet(branch.driving(input, false), progress, row)?;
@@ -124,13 +124,11 @@ pub fn visit<V: ValueKind>(
     socket: &mut Socket,
     row: &mut [V],
 ) -> Result<Answer, FolderRefusal>
-    ensures visits { Visits V.ValueKind.kind (circuit_model circuit.now) fault budget (length row.old) result }
-    ensures socket { MatchResult result (λ _. socket.new.fault ≡ None) (λ _. socket.new ≡ socket.old) }
-    ensures row { MatchResult result (λ _. length row.new ≡ length row.old) (λ _. row.new ≡ row.old) }
+    ensures visits { Visits V.ValueKind.kind circuit.now fault budget (length row.old) result }
+    ensures socket { SocketEmptied result socket.old socket.new }
+    ensures row { RowKept result row.old row.new }
 {
-    if row.len() < circuit.line_count() {
-        return Err(FolderRefusal::RowTooShort);
-    }
+    allow_row(circuit, row.len())?;
     let mut progress = Progress::new();
     let plug = socket.plug(fault);
     let setting = Setting {

@@ -1,5 +1,4 @@
 use Rattle.std.proofs.Common.{◌≡◌, map, take}
-use Rattle.faults.specs.Cubes.{cube_model}
 use Rattle.simulator.specs.Lines.{inputs_row}
 use Rattle.simulator.specs.Detection.{input_value}
 use Rattle.simulator.proofs.simulation.drive.Given as goal
@@ -8,4 +7,4 @@ use Rattle.simulator.proofs.simulation.drive.Given as goal
 abbrev pub invariant-loop-input : goal.invariant-loop-input
 invariant-loop-input g l =
     let v = g.V.ValueKind in
-    map v.meaning (take l.input l.row) ≡ inputs_row v.kind.values l.fault (input_value v.kind (cube_model l.cube)) l.input
+    map v.meaning (take l.input l.row) ≡ inputs_row v.kind.values l.fault (input_value v.kind l.cube) l.input

@@ -1,15 +1,13 @@
 use Rattle.std.proofs.Common.{◌≡◌, ℕ, ◌^◌, ltb, leb, ap, ◌∙◌, arith}
 use Rattle.std.proofs.lemmas.Bool.Decides.{Decides-at}
-use Rattle.circuit.specs.Circuits.{circuit_model}
-use Rattle.faults.specs.Cubes.{cube_model}
 use Rattle.simulator.specs.Simulation.{drives_beyond}
 use Rattle.simulator.proofs.Driving.{past_bits, beyond_decides}
 use Rattle.simulator.proofs.simulation.drives_beyond.Goals as goal
 
 pub returns : goal.returns
 returns c =
-    let model = circuit_model c.args.circuit.now in
-    let q = cube_model c.args.cube in
+    let model = c.args.circuit.now in
+    let q = c.args.cube in
     let value : ltb 0 c.unwrap_or.result ≡ drives_beyond model q =
     ap (ltb 0) c.unwrap_or.ensures
     ∙ past_bits c.driven.result c.input_count.result c.checked_shr-past.result c.driven.type_inv c.checked_shr-past.ensures

@@ -1,9 +1,9 @@
-use Rattle.std.proofs.Common.{◌≡◌, ◌++◌, map, length, take, drop, Ok, sym, ap, ◌∙◌, subst, arith}
+use Rattle.std.proofs.Common.{◌≡◌, ◌++◌, map, length, take, drop, Ok, sym, refl, ap, ◌∙◌, subst, arith}
 use Rattle.std.proofs.lemmas.Grind.{common_steps}
 use Rattle.std.proofs.lemmas.Slice.{drop-append-drop}
-use Rattle.circuit.specs.Circuits.{circuit_model}
+use Rattle.std.specs.Result.{result_map_both}
+use Rattle.refusals.specs.declared.layers.FolderRefusal.{FolderRefusal}
 use Rattle.circuit.specs.Model.{line_count}
-use Rattle.faults.specs.Cubes.{cube_model}
 use Rattle.simulator.specs.Detection.{simulated, verdict}
 use Rattle.simulator.specs.Simulation.{simulation}
 use Rattle.simulator.specs.Laws.{Tells}
@@ -12,17 +12,17 @@ use Rattle.simulator.proofs.Telling.{verdict_tells}
 use Rattle.simulator.proofs.simulation.simulate.Goals as goal
 
 pub judge-requires : goal.judge-requires
-judge-requires g c = λ k d h. grind (arith, common_steps, outputs_below (circuit_model c.args.circuit.now) c.outputs.ensures.rules k d)
+judge-requires g c = λ k d h. grind (arith, common_steps, outputs_below c.args.circuit.now c.outputs.ensures.rules k d)
 
 pub returns : goal.returns
 returns g c =
     let v = g.V.ValueKind in
-    let model = circuit_model c.args.circuit.now in
+    let model = c.args.circuit.now in
     let f = c.args.socket.now.fault in
-    let q = cube_model c.args.cube in
+    let q = c.args.cube in
     let before = c.args.row.now in
     let inputs = c.input_count-inputs.result in
-    let lines = c.line_count-lines.result in
+    let lines = c.line_count.result in
     let driven = c.drive.new.row in
     let worked = c.settle.new.row in
     let first : length (take inputs (take lines before)) ≡ inputs = grind (arith, common_steps) in
@@ -30,8 +30,9 @@ returns g c =
     let whole : take (line_count model) (worked ++ drop lines before) ≡ worked = grind (arith, common_steps) in
     let rest : drop (line_count model) (worked ++ drop lines before) ≡ drop (line_count model) before = grind (arith, common_steps, drop-append-drop) in
     let sets : map v.meaning worked ≡ simulated v.kind model f q = cc in
-    let is : c.judge.result ≡ verdict v.kind model f q = cc in
-    let answer : Ok c.judge.result ≡ simulation v.kind model f q (length before) = grind (arith, common_steps) in
+    let is : c.judge.result ≡ verdict v.kind model f q = c.judge.ensures ∙ rw (sets, c.outputs.ensures.value) refl in
+    let answer : Ok c.judge.result ≡ simulation v.kind model f q (length before) =
+    ap Ok is ∙ ap (result_map_both (λ _. verdict v.kind model f q) (λ (e : FolderRefusal). e)) c.in_ok-allow_simulation.ensures in
     record {
       answer = answer;
       row = record { front = ap (map v.meaning) whole ∙ sets; rest = rest };

@@ -1,6 +1,4 @@
-use Rattle.std.proofs.Common.{length, ap, ◌∙◌, arith}
-use Rattle.circuit.specs.Circuits.{circuit_model}
-use Rattle.faults.specs.Cubes.{cube_model}
+use Rattle.std.proofs.Common.{length, ap, ◌∙◌}
 use Rattle.simulator.specs.declared.socket.Socket.{Socket}
 use Rattle.visit.specs.Visits.{going_on, left}
 use Rattle.visit.proofs.Visited.{visit_is, visits}
@@ -9,9 +7,9 @@ use Rattle.visit.proofs.visiting.visit.Goals as goal
 pub returns-clause-visits : goal.returns-clause-visits
 returns-clause-visits g c =
     let v = g.V.ValueKind in
-    let model = circuit_model c.args.circuit.now in
+    let model = c.args.circuit.now in
     let places = length c.args.row.now in
-    visits v.kind v.family g.met.V.ValueKind.lawful model c.args.fault c.args.budget places c.answer.result (omega (arith, c.line_count.ensures))
+    visits v.kind v.family g.met.V.ValueKind.lawful model c.args.fault c.args.budget places c.answer.result c.in_ok-allow_row.ensures
     (visit_is v.kind v.family g.met.V.ValueKind.lawful model c.args.fault c.args.budget places
-    c.socket.result.now.fault (cube_model c.whole.result.cube) c.whole.result.next (going_on c.new-progress.result) (left c.meet-end.new.progress c.meet-end.result) c.answer.result
+    c.socket.result.now.fault c.whole.result.cube c.whole.result.next (going_on c.new-progress.result) (left c.meet-end.new.progress c.meet-end.result) c.answer.result
     (ap (λ (s : Socket). s.fault) c.socket.ensures ∙ c.plug-plug.ensures.holds) c.whole.ensures.cube c.whole.ensures.next c.new-progress.ensures c.meet-end.ensures c.answer.ensures)
