@@ -7,25 +7,29 @@ use Rattle.refusals.specs.declared.cause.Refusal.{Refusal}
 use Rattle.values.specs.Kind.{Kind}
 use Rattle.circuit.specs.Model.{Circuit}
 use Rattle.faults.specs.Cubes.{Cube}
-use Rattle.visit.specs.Visiting as visiting
+use Rattle.visit.specs.declared.answer.Answer.{Answer}
+use Rattle.visit.specs.declared.answer.Answer.TheVariants as answer
 use Rattle.visit.specs.Meaning.{Test, Unbeaten, Undetectable}
-use Rattle.folder.specs.Entries.{State, Fewest, Redundant, Covered, Entry, state_cube}
+use Rattle.folder.specs.declared.state.State.{State}
+use Rattle.folder.specs.declared.state.State.TheVariants.{Fewest, Redundant, Covered}
+use Rattle.folder.specs.Entries.{Entry, state_cube}
 use Rattle.folder.specs.Folders.{Folder}
 use Rattle.law.specs.declared.call.Call.{Call}
 use Rattle.law.specs.declared.call.Call.TheVariants.{Enter, Search, Cover}
-use Rattle.law.specs.Histories as histories
-use Rattle.law.specs.Histories.{Event, Outcome, Entered, Searched, Run}
+use Rattle.law.specs.declared.call.Outcome.{Outcome}
+use Rattle.law.specs.declared.call.Outcome.TheVariants as outcome
+use Rattle.law.specs.Histories.{Event, Run}
 
 -- an answer of a search that was not spent
-abbrev pub is_unspent : visiting.Answer → Bool
-is_unspent (visiting.Fewest cube tries) = true
-is_unspent (visiting.Redundant tries) = true
-is_unspent (visiting.Spent best tries) = false
+abbrev pub is_unspent : Answer → Bool
+is_unspent (answer.Fewest cube tries) = true
+is_unspent (answer.Redundant tries) = true
+is_unspent (answer.Spent best tries) = false
 
 abbrev pub is_unspent_outcome : Outcome → Bool
-is_unspent_outcome (Entered number) = false
-is_unspent_outcome (Searched a) = is_unspent a
-is_unspent_outcome (histories.Covered count) = false
+is_unspent_outcome (outcome.Entered number) = false
+is_unspent_outcome (outcome.Searched a) = is_unspent a
+is_unspent_outcome (outcome.Covered count) = false
 
 abbrev pub is_granted_unspent : Result Outcome Refusal → Bool
 is_granted_unspent (Ok o) = is_unspent_outcome o

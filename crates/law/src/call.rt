@@ -13,7 +13,7 @@ pub enum Call {
     Cover { number: usize },
 }
 
-#[derive(Clone, Copy)]
+#[derive(Clone, Copy, Debug, PartialEq, Eq)]
 pub enum Outcome {
     // the number of the new entry
     Entered { number: usize },

@@ -1,6 +1,6 @@
 // Performing a call.
-ghost use Rattle.std.specs.Prelude.{◌≡◌, length, None, MatchResult};
-ghost use Rattle.folder.specs.Folders.{folder_model};
+ghost use Rattle.std.specs.Prelude.{◌≡◌, length};
+ghost use Rattle.simulator.specs.Callers.{RowKept, SocketStaysEmpty};
 ghost use Rattle.law.specs.Histories.{event_of, Step};
 ghost use Rattle.law.specs.Sound.{KeepsLaw};
 
@@ -18,11 +18,11 @@ pub fn perform<V: ValueKind>(
     socket: &mut Socket,
     row: &mut [V],
 ) -> Result<Outcome, Refusal>
-    ensures step { Step V.ValueKind.kind (folder_model folder.old).circuit (event_of call (length row.old) result) (folder_model folder.old).table (folder_model folder.new).table }
-    ensures law { KeepsLaw V.ValueKind.kind (folder_model folder.old) (event_of call (length row.old) result) (folder_model folder.new) }
+    ensures step { Step V.ValueKind.kind folder.old.circuit (event_of call (length row.old) result) folder.old.table folder.new.table }
+    ensures law { KeepsLaw V.ValueKind.kind folder.old (event_of call (length row.old) result) folder.new }
     ensures circuit { folder.new.circuit ≡ folder.old.circuit }
-    ensures socket { MatchResult result (λ _. socket.old.fault ≡ None → socket.new.fault ≡ None) (λ _. socket.new ≡ socket.old) }
-    ensures row { MatchResult result (λ _. length row.new ≡ length row.old) (λ _. row.new ≡ row.old) }
+    ensures socket { SocketStaysEmpty result socket.old socket.new }
+    ensures row { RowKept result row.old row.new }
 {
     match call {
         Call::Enter { fault } => {
