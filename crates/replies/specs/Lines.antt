@@ -6,7 +6,9 @@ use Rattle.refusals.specs.declared.cause.Cause.{Cause}
 use Rattle.refusals.specs.Causes.{cause_text}
 use Rattle.faults.specs.Cubes.{Cube}
 use Rattle.circuit.specs.Model.{Circuit, names}
-use Rattle.folder.specs.Entries.{State, Open, Spent, Fewest, Redundant, Covered, Entry, state_cube, state_count, state_word}
+use Rattle.folder.specs.declared.state.State.{State}
+use Rattle.folder.specs.declared.state.State.TheVariants.{Open, Spent, Fewest, Redundant, Covered}
+use Rattle.folder.specs.Entries.{Entry, state_cube, state_count, state_word}
 use Rattle.jobs.specs.declared.job.Kind.{Kind}
 use Rattle.jobs.specs.Kinds.{kind_text}
 use Rattle.replies.specs.Texts.{cube_text}
