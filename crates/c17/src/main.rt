@@ -28,55 +28,19 @@ const INPUTS: u64 = 5;
 
 const LINES: usize = 11;
 
-// A fault by the name of its line.
+// A fault by the name of its line, its pin and its level. (A row of a table: fields with names would make five lines of it.)
 #[derive(Clone, Copy)]
-struct NamedFault {
-    line: &'static str,
-    pin: usize,
-    level: usize,
-}
+struct NamedFault(&'static str, usize, usize);
 
 const CUBE_FAULTS: [NamedFault; 8] = [
-    NamedFault {
-        line: "n1",
-        pin: 0,
-        level: 1,
-    },
-    NamedFault {
-        line: "n3",
-        pin: 0,
-        level: 0,
-    },
-    NamedFault {
-        line: "n3",
-        pin: 0,
-        level: 1,
-    },
-    NamedFault {
-        line: "n6",
-        pin: 0,
-        level: 1,
-    },
-    NamedFault {
-        line: "n11",
-        pin: 0,
-        level: 0,
-    },
-    NamedFault {
-        line: "n16",
-        pin: 2,
-        level: 0,
-    },
-    NamedFault {
-        line: "n19",
-        pin: 1,
-        level: 1,
-    },
-    NamedFault {
-        line: "n22",
-        pin: 0,
-        level: 0,
-    },
+    NamedFault("n1", 0, 1),
+    NamedFault("n3", 0, 0),
+    NamedFault("n3", 0, 1),
+    NamedFault("n6", 0, 1),
+    NamedFault("n11", 0, 0),
+    NamedFault("n16", 2, 0),
+    NamedFault("n19", 1, 1),
+    NamedFault("n22", 0, 0),
 ];
 
 const CUBES: [&str; 13] = [
@@ -150,11 +114,7 @@ fn print_verdict<V: ValueKind>(
 
 // The verdicts of the three kinds on each cube.
 fn print_cubes(rt: &impl Print, circuit: &Circuit, named: NamedFault) -> anyhow::Result<()> {
-    let NamedFault {
-        line: name,
-        pin,
-        level,
-    } = named;
+    let NamedFault(name, pin, level) = named;
     let line = circuit.line_named(name.as_bytes()).context("no such line")?;
     let fault = Fault::new(circuit, StuckAt { line, pin, level })?;
     for letters in &CUBES {
