@@ -1,4 +1,4 @@
--- What a search of an entry does to the table.
+-- What searching an entry does to the table.
 use Rattle.std.specs.Prelude.{ℕ, Bool, cond, not, ◌&&◌, List, Ok, Err, Result, nat_le, slice_set}
 use Rattle.refusals.specs.declared.layers.FolderRefusal.{FolderRefusal}
 use Rattle.refusals.specs.declared.layers.FolderRefusal.TheVariants.{EntrySettled, BudgetOutOfRange, BudgetNotAbove}

@@ -13,7 +13,7 @@ use simulator::Socket;
 use values::kind::ValueKind;
 use visit::{Answer, visit};
 
-// Whether a budget is one that a search may have.
+// Whether an entry may be searched with that budget at all.
 fn is_in_range(budget: usize) -> bool
     ensures { result ≡ budget_in_range budget }
 {

@@ -20,7 +20,7 @@ use Rattle.law.specs.declared.call.Outcome.{Outcome}
 use Rattle.law.specs.declared.call.Outcome.TheVariants as outcome
 use Rattle.law.specs.Histories.{Event, Run}
 
--- an answer of a search that was not spent
+-- an answer that was not spent
 abbrev pub is_unspent : Answer → Bool
 is_unspent (answer.Fewest cube tries) = true
 is_unspent (answer.Redundant tries) = true
@@ -40,11 +40,11 @@ searches number (Enter asked) = false
 searches number (Search n budget) = n == number
 searches number (Cover n) = false
 
--- the event is a granted search of that entry, and was not spent
+-- the event searched that entry: it was granted, and not spent
 abbrev pub is_unspent_search : ℕ → Event → Bool
 is_unspent_search number e = searches number e.call && is_granted_unspent e.result
 
--- some granted search of that entry was not spent
+-- some event searched that entry, was granted, and not spent
 abbrev pub SearchedUnspent : List Event → ℕ → Type 0
 SearchedUnspent history number = list_any (is_unspent_search number) history ≡ true
 
@@ -63,7 +63,7 @@ pub record Sound (K : Kind) (c : Circuit) (history : List Event) (table : List E
       → (d : Entry) × (q : Cube) × EntryAt table m d × (state_cube d.state ≡ Some q) × Test c e.fault q
   -- no cube that the kind shows to detect the fault of a fewest entry drives fewer inputs than the entry's cube
   pub fewest : (n : ℕ) (e : Entry) → EntryAt table n e → (q : Cube) (tries : ℕ) → e.state ≡ Fewest q tries → Unbeaten K c e.fault q
-  -- a redundant entry was searched, by a granted search that was not spent, and no vector detects its fault
+  -- a redundant entry was searched, by an event that was granted and not spent, and no vector detects its fault
   pub redundant : (n : ℕ) (e : Entry) → EntryAt table n e → IsRedundant e.state → SearchedUnspent history n × Undetectable c e.fault
   -- an entry that was so searched, and whose fault no vector detects, is redundant
   pub marked : (n : ℕ) (e : Entry) → EntryAt table n e → SearchedUnspent history n → Undetectable c e.fault → IsRedundant e.state
