@@ -106,23 +106,28 @@ pub fn expect_refused(
 ) -> Result<(), Fail> {
     let mut circuit = other_circuit(heap)?;
     let shown = Shown(text);
-    match read(heap, text, &mut circuit) {
-        Ok(_) => panic!(rt; "granted: {shown}"),
-        Err(refusal) => {
-            let cause = Cause {
-                layer: layer_of(number),
-                number,
-                place,
-            };
-            assert_eq!(rt; refusal.cause(), Some(cause), "{shown}");
-            expect_blank(rt, &circuit, text);
-        }
-    }
+    let Err(refusal) = read(heap, text, &mut circuit) else {
+        panic!(rt; "granted: {shown}")
+    };
+    let cause = Cause {
+        layer: layer_of(number),
+        number,
+        place,
+    };
+    assert_eq!(rt; refusal.cause(), Some(cause), "{shown}");
+    expect_blank(rt, &circuit, text);
     Ok(())
 }
 
-pub fn expect_all_refused(rt: &impl Abort, heap: Global, cases: &[Refused]) -> Result<(), Fail> {
-    for Refused(text, number, place) in cases {
+// Texts with the same front: what follows it, the number and the place in the whole text.
+pub fn expect_all_refused(
+    rt: &impl Abort,
+    heap: Global,
+    front: &str,
+    endings: &[Refused],
+) -> Result<(), Fail> {
+    for Refused(ending, number, place) in endings {
+        let text = format!(in heap; "{front}{ending}")?;
         expect_refused(rt, heap, text.as_bytes(), *number, *place)?;
     }
     Ok(())

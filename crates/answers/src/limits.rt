@@ -1,5 +1,7 @@
 // Both sides of each limit.
-use crate::expect::{Refused, Size, circuit_of, expect_granted, expect_refused, with_gates};
+use crate::expect::{
+    Refused, Size, circuit_of, expect_all_refused, expect_granted, expect_refused, with_gates,
+};
 use circuit::Circuit;
 use std::alloc::Global;
 use std::fmt::Write;
@@ -60,20 +62,6 @@ fn operands_of_each_operator(rt: HostRuntime) -> Result<(), Fail> {
     Ok(())
 }
 
-// Texts with the same front: what follows it, the number and the place in the whole text.
-fn expect_endings(
-    rt: &impl Abort,
-    heap: Global,
-    front: &str,
-    endings: &[Refused],
-) -> Result<(), Fail> {
-    for Refused(ending, number, place) in endings {
-        let text = format!(in heap; "{front}{ending}")?;
-        expect_refused(rt, heap, text.as_bytes(), *number, *place)?;
-    }
-    Ok(())
-}
-
 fn expect_ending_granted(
     rt: &impl Abort,
     heap: Global,
@@ -112,7 +100,7 @@ fn sixty_four_inputs(rt: HostRuntime) -> Result<(), Fail> {
     let mut front = String::from_str(heap, "(inputs")?;
     push_names(&mut front)?;
     assert_eq!(rt; front.len(), 253);
-    expect_endings(&rt, heap, front.as_str(), &AFTER_INPUTS)?;
+    expect_all_refused(&rt, heap, front.as_str(), &AFTER_INPUTS)?;
     let size = Size {
         inputs: 64,
         lines: 64,
@@ -142,7 +130,7 @@ fn sixty_four_outputs(rt: HostRuntime) -> Result<(), Fail> {
     front.push_str(")\n(gate g (not n0))\n(outputs")?;
     push_names(&mut front)?;
     assert_eq!(rt; front.len(), 527);
-    expect_endings(&rt, heap, front.as_str(), &AFTER_OUTPUTS)?;
+    expect_all_refused(&rt, heap, front.as_str(), &AFTER_OUTPUTS)?;
     let size = Size {
         inputs: 64,
         lines: 65,
@@ -182,7 +170,7 @@ fn five_hundred_and_twelve_lines(rt: HostRuntime) -> Result<(), Fail> {
     };
     let front = with_gates(heap, 510)?;
     assert_eq!(rt; front.len(), 10101);
-    expect_endings(&rt, heap, front.as_str(), &AFTER_511_LINES)?;
+    expect_all_refused(&rt, heap, front.as_str(), &AFTER_511_LINES)?;
     expect_ending_granted(
         &rt,
         heap,
@@ -193,7 +181,7 @@ fn five_hundred_and_twelve_lines(rt: HostRuntime) -> Result<(), Fail> {
     )?;
     let front = with_gates(heap, 511)?;
     assert_eq!(rt; front.len(), 10121);
-    expect_endings(&rt, heap, front.as_str(), &AFTER_512_LINES)?;
+    expect_all_refused(&rt, heap, front.as_str(), &AFTER_512_LINES)?;
     expect_ending_granted(&rt, heap, front.as_str(), "(outputs g510)\n", size, 10136)
 }
 

@@ -1,4 +1,4 @@
-// Searches whose answers were worked out beforehand, and covers, by the calls of the library.
+// Entries whose answers were worked out beforehand, and covers, by the calls of the library.
 use crate::expect::{circuit_of, stuck_at};
 use folder::{Folder, State};
 use simulator::Socket;
@@ -18,59 +18,44 @@ const ABSORBED: &str = "(inputs a b)\n(gate p (and a b))\n(gate y (or a p))\n(ou
 
 const WIRE: &str = "(inputs a)\n(outputs a)\n";
 
-// How a search ended: the cube's driven word and level word, and the tries.
-#[derive(Clone, Copy, Debug, PartialEq, Eq)]
-enum Ended {
-    Fewest(u64, u64, usize),
-    Redundant(usize),
-    Spent(u64, u64, usize),
-    SpentWithNone(usize),
-}
-
-// How the search ended that left an entry in this state.
-fn end_of(state: State) -> Option<Ended> {
-    match state {
-        State::Fewest { cube, tries } => Some(Ended::Fewest(cube.driven(), cube.level(), tries)),
-        State::Redundant { tries } => Some(Ended::Redundant(tries)),
-        State::Spent { cube, tries } => Some(match cube {
-            Some(cube) => Ended::Spent(cube.driven(), cube.level(), tries),
-            None => Ended::SpentWithNone(tries),
-        }),
-        State::Open | State::Covered { .. } => None,
-    }
-}
-
-// A circuit, a fault by line, pin and level, a budget, and how the search ends. (A row of a table: fields with names would
-// make ten lines of it.)
+// A circuit, a fault by line, pin and level, a budget; and the state that the entry is in afterwards, with its cube's driven word
+// and level word and its tries. (A row of a table: fields with names would make ten lines of it.)
 #[derive(Clone, Copy)]
-struct Search(&'static str, [usize; 3], usize, Ended);
+struct Search(
+    &'static str,
+    [usize; 3],
+    usize,
+    &'static str,
+    Option<[u64; 2]>,
+    usize,
+);
 
 const BY_NINE: [Search; 11] = [
-    Search(SELECTED, [1, 0, 0], 100, Ended::Fewest(2, 2, 7)),
-    Search(SELECTED, [1, 0, 1], 100, Ended::Fewest(2, 0, 5)),
-    Search(SELECTED, [1, 0, 1], 4, Ended::Spent(3, 0, 4)),
-    Search(SELECTED, [3, 2, 0], 100, Ended::Fewest(3, 2, 7)),
-    Search(ABSORBED, [2, 0, 0], 100, Ended::Redundant(5)),
-    Search(MULTIPLEXER, [2, 0, 0], 100, Ended::Fewest(7, 6, 21)),
-    Search(MULTIPLEXER, [2, 0, 0], 5, Ended::SpentWithNone(5)),
-    Search(MULTIPLEXER, [2, 0, 0], 6, Ended::Spent(7, 6, 6)),
-    Search(MULTIPLEXER, [2, 0, 0], 20, Ended::Spent(7, 6, 20)),
-    Search(WIRE, [0, 0, 0], 100, Ended::Fewest(1, 1, 3)),
-    Search(WIRE, [0, 0, 1], 100, Ended::Fewest(1, 0, 2)),
+    Search(SELECTED, [1, 0, 0], 100, "fewest", Some([2, 2]), 7),
+    Search(SELECTED, [1, 0, 1], 100, "fewest", Some([2, 0]), 5),
+    Search(SELECTED, [1, 0, 1], 4, "spent", Some([3, 0]), 4),
+    Search(SELECTED, [3, 2, 0], 100, "fewest", Some([3, 2]), 7),
+    Search(ABSORBED, [2, 0, 0], 100, "redundant", None, 5),
+    Search(MULTIPLEXER, [2, 0, 0], 100, "fewest", Some([7, 6]), 21),
+    Search(MULTIPLEXER, [2, 0, 0], 5, "spent", None, 5),
+    Search(MULTIPLEXER, [2, 0, 0], 6, "spent", Some([7, 6]), 6),
+    Search(MULTIPLEXER, [2, 0, 0], 20, "spent", Some([7, 6]), 20),
+    Search(WIRE, [0, 0, 0], 100, "fewest", Some([1, 1]), 3),
+    Search(WIRE, [0, 0, 1], 100, "fewest", Some([1, 0]), 2),
 ];
 
 const BY_SEVEN: [Search; 4] = [
-    Search(SELECTED, [1, 0, 0], 100, Ended::Fewest(3, 2, 7)),
-    Search(SELECTED, [1, 0, 1], 100, Ended::Fewest(2, 0, 5)),
-    Search(ABSORBED, [2, 0, 0], 100, Ended::Redundant(5)),
-    Search(MULTIPLEXER, [2, 0, 0], 100, Ended::Fewest(7, 6, 21)),
+    Search(SELECTED, [1, 0, 0], 100, "fewest", Some([3, 2]), 7),
+    Search(SELECTED, [1, 0, 1], 100, "fewest", Some([2, 0]), 5),
+    Search(ABSORBED, [2, 0, 0], 100, "redundant", None, 5),
+    Search(MULTIPLEXER, [2, 0, 0], 100, "fewest", Some([7, 6]), 21),
 ];
 
 const BY_FIVE: [Search; 4] = [
-    Search(SELECTED, [1, 0, 0], 100, Ended::Fewest(3, 2, 7)),
-    Search(SELECTED, [1, 0, 1], 100, Ended::Fewest(3, 0, 6)),
-    Search(ABSORBED, [2, 0, 0], 100, Ended::Redundant(5)),
-    Search(MULTIPLEXER, [2, 0, 0], 100, Ended::Fewest(7, 6, 21)),
+    Search(SELECTED, [1, 0, 0], 100, "fewest", Some([3, 2]), 7),
+    Search(SELECTED, [1, 0, 1], 100, "fewest", Some([3, 0]), 6),
+    Search(ABSORBED, [2, 0, 0], 100, "redundant", None, 5),
+    Search(MULTIPLEXER, [2, 0, 0], 100, "fewest", Some([7, 6]), 21),
 ];
 
 fn folder_of(heap: Global, text: &str) -> Result<Folder, Fail> {
@@ -85,12 +70,14 @@ fn expect_searches<V: ValueKind>(
 ) -> Result<(), Fail> {
     let mut socket = Socket::new();
     for search in searches {
-        let Search(text, [line, pin, level], budget, end) = *search;
+        let Search(text, [line, pin, level], budget, word, cube, tries) = *search;
         let mut folder = folder_of(heap, text)?;
         let number = folder.enter(stuck_at(line, pin, level))?;
         let _ = folder.search(number, budget, &mut socket, row)?;
         let entry = folder.entry(number).ok_or("no entry")?;
-        assert_eq!(rt; end_of(entry.state()), Some(end));
+        let state = format!(in heap; "{}", entry.state())?;
+        let words = entry.cube().map(|cube| [cube.driven(), cube.level()]);
+        assert_eq!(rt; (state.as_str(), words, entry.count()), (word, cube, tries));
     }
     Ok(())
 }
@@ -117,8 +104,8 @@ fn covered_entries(rt: HostRuntime) -> Result<(), Fail> {
     let marked = folder.cover(first, &mut socket, &mut row)?;
     assert_eq!(rt; marked, 1);
     let entry = folder.entry(output).ok_or("no entry")?;
-    assert!(rt; matches!(entry.state(), State::Covered { by } if by == first));
+    assert_eq!(rt; entry.state(), State::Covered { by: first });
     let entry = folder.entry(other).ok_or("no entry")?;
-    assert!(rt; matches!(entry.state(), State::Open));
+    assert_eq!(rt; entry.state(), State::Open);
     Ok(())
 }

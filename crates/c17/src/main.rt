@@ -28,55 +28,19 @@ const INPUTS: u64 = 5;
 
 const LINES: usize = 11;
 
-// A fault by the name of its line.
+// A fault by the name of its line, its pin and its level. (A row of a table: fields with names would make five lines of it.)
 #[derive(Clone, Copy)]
-struct NamedFault {
-    line: &'static str,
-    pin: usize,
-    level: usize,
-}
+struct NamedFault(&'static str, usize, usize);
 
 const CUBE_FAULTS: [NamedFault; 8] = [
-    NamedFault {
-        line: "n1",
-        pin: 0,
-        level: 1,
-    },
-    NamedFault {
-        line: "n3",
-        pin: 0,
-        level: 0,
-    },
-    NamedFault {
-        line: "n3",
-        pin: 0,
-        level: 1,
-    },
-    NamedFault {
-        line: "n6",
-        pin: 0,
-        level: 1,
-    },
-    NamedFault {
-        line: "n11",
-        pin: 0,
-        level: 0,
-    },
-    NamedFault {
-        line: "n16",
-        pin: 2,
-        level: 0,
-    },
-    NamedFault {
-        line: "n19",
-        pin: 1,
-        level: 1,
-    },
-    NamedFault {
-        line: "n22",
-        pin: 0,
-        level: 0,
-    },
+    NamedFault("n1", 0, 1),
+    NamedFault("n3", 0, 0),
+    NamedFault("n3", 0, 1),
+    NamedFault("n6", 0, 1),
+    NamedFault("n11", 0, 0),
+    NamedFault("n16", 2, 0),
+    NamedFault("n19", 1, 1),
+    NamedFault("n22", 0, 0),
 ];
 
 const CUBES: [&str; 13] = [
@@ -108,12 +72,8 @@ fn verdict<V: ValueKind>(
 // One digit for each vector: 1 if it detects the fault.
 fn print_vectors(rt: &impl Print, circuit: &Circuit, fault: Fault) -> anyhow::Result<()> {
     for vector in 0..(1u64 << INPUTS) {
-        let cube = Cube::new((1 << INPUTS) - 1, vector)
-            .ok()
-            .context("no such cube")?;
-        let verdict = verdict(circuit, fault, cube, &mut [Nine::unknown(); LINES])
-            .ok()
-            .context("refused")?;
+        let cube = Cube::new((1 << INPUTS) - 1, vector)?;
+        let verdict = verdict(circuit, fault, cube, &mut [Nine::unknown(); LINES])?;
         let digit = match verdict {
             Verdict::Shows => '1',
             Verdict::Still => '0',
@@ -127,16 +87,11 @@ fn print_vectors(rt: &impl Print, circuit: &Circuit, fault: Fault) -> anyhow::Re
 
 // The faults of a line: its pins in order, stuck at 0 and then at 1.
 fn print_line(rt: &impl Print, circuit: &Circuit, line: usize) -> anyhow::Result<()> {
-    let operands = circuit.gate(line).map_or(0, |gate| gate.operands.len());
-    for pin in 0..=operands {
+    let name = circuit.line_name(line).context("a line without a name")?;
+    for pin in 0..=circuit.operand_count(line) {
         for level in 0..2 {
-            let fault = Fault::new(circuit, StuckAt { line, pin, level })
-                .ok()
-                .context("no such fault")?;
-            match circuit.line_name(line) {
-                Some(name) => print!(rt; "{name} {pin} {level} ")?,
-                None => print!(rt; "none {pin} {level} ")?,
-            }
+            let fault = Fault::new(circuit, StuckAt { line, pin, level })?;
+            print!(rt; "{name} {pin} {level} ")?;
             print_vectors(rt, circuit, fault)?;
         }
     }
@@ -159,15 +114,9 @@ fn print_verdict<V: ValueKind>(
 
 // The verdicts of the three kinds on each cube.
 fn print_cubes(rt: &impl Print, circuit: &Circuit, named: NamedFault) -> anyhow::Result<()> {
-    let NamedFault {
-        line: name,
-        pin,
-        level,
-    } = named;
+    let NamedFault(name, pin, level) = named;
     let line = circuit.line_named(name.as_bytes()).context("no such line")?;
-    let fault = Fault::new(circuit, StuckAt { line, pin, level })
-        .ok()
-        .context("no such fault")?;
+    let fault = Fault::new(circuit, StuckAt { line, pin, level })?;
     for letters in &CUBES {
         let cube = cube_of(letters);
         print!(rt; "{name} {pin} {level} {letters}")?;
@@ -182,9 +131,7 @@ fn print_cubes(rt: &impl Print, circuit: &Circuit, named: NamedFault) -> anyhow:
 fn main(rt: HostRuntime) -> anyhow::Result<()> {
     let heap = rt.alloc();
     let mut circuit = Circuit::blank(heap)?;
-    read(heap, C17, &mut circuit)
-        .ok()
-        .context("the circuit is refused")?;
+    let _ = read(heap, C17, &mut circuit)?;
     for line in 0..circuit.line_count() {
         print_line(&rt, &circuit, line)?;
     }

@@ -1,5 +1,6 @@
 -- What covering by an entry does to the table.
-use Rattle.std.specs.Prelude.{ℕ, ◌+◌, Bool, cond, not, ◌&&◌, List, [], ◌∷◌, map, Some, Ok, Err, Result}
+use Rattle.std.specs.Prelude.{ℕ, Bool, cond, not, ◌&&◌, List, map, Some, Ok, Err, Result}
+use Rattle.std.specs.List.{count_by}
 use Rattle.refusals.specs.declared.layers.FolderRefusal.{FolderRefusal}
 use Rattle.refusals.specs.declared.layers.FolderRefusal.TheVariants.{EntryNotFewest}
 use Rattle.values.specs.Kind.{Kind}
@@ -7,14 +8,11 @@ use Rattle.circuit.specs.Model.{Circuit}
 use Rattle.faults.specs.Cubes.{Cube}
 use Rattle.simulator.specs.Detection.{detected}
 use Rattle.simulator.specs.Simulation.{simulation_allowed}
-use Rattle.folder.specs.Entries.{State, Open, Spent, Fewest, Redundant, Covered, Entry, with_state, state_settled}
+use Rattle.folder.specs.declared.state.State.{State}
+use Rattle.folder.specs.declared.state.State.TheVariants.{Open, Spent, Fewest, Redundant, Covered}
+use Rattle.folder.specs.Entries.{Entry, with_state, state_settled}
 use Rattle.folder.specs.Folders.{Folder}
 use Rattle.folder.specs.Transitions.{Granted, granted, and_then, entry_at}
-
--- how many of a list pass a test
-abbrev pub count_of : {X : Type 0} → (X → Bool) → List X → ℕ
-count_of test [] = 0
-count_of test (x ∷ xs) = cond (test x) 1 0 + count_of test xs
 
 -- the cube of an entry that is fewest
 abbrev pub fewest_cube : State → Result Cube FolderRefusal
@@ -34,7 +32,7 @@ marked K c number q e = cond (is_covered K c q e) (with_state e (Covered number)
 
 -- mark what the cube covers, and count it
 abbrev pub mark_covered : Kind → Circuit → List Entry → ℕ → Cube → Granted ℕ
-mark_covered K c table number q = granted (count_of (is_covered K c q) table) (map (marked K c number q) table)
+mark_covered K c table number q = granted (count_by (is_covered K c q) table) (map (marked K c number q) table)
 
 -- Cover by the entry of that number, with a row of so many places: each open or spent entry whose fault the kind shows its
 -- cube to detect is marked, and the answer is how many were marked.

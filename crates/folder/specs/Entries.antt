@@ -1,24 +1,12 @@
--- Entries and their states, as the definitions speak of them: cubes as their two words.
+-- Entries and their states.
 use Rattle.std.specs.Prelude.{ℕ, Bool, true, false, List, Option, codes}
-use Prim.Native.Nat.{zero-le}
 use Rattle.std.specs.declared.option.Option.TheVariants as option
-use Rattle.std.specs.Option.{option_map}
 use Rattle.std.specs.List.{list_any}
 use Rattle.faults.specs.declared.fault.Fault.{Fault}
 use Rattle.faults.specs.Faults.{same_fault}
-use Rattle.faults.specs.Cubes.{Cube, cube_model}
-use Rattle.folder.specs.declared.state.State as code_state
-use Rattle.folder.specs.declared.state.State.TheVariants as state
-use Rattle.folder.specs.declared.entry.Entry as code_entry
-
--- What is known of a fault: nothing; that the tries ran out, with the best cube that was met; a test that
--- drives as few inputs as any; that no vector detects it; or the number of the entry whose cube detects it.
-pub data State : Type 0 where
-  Open : State
-  Spent : Option Cube → ℕ → State
-  Fewest : Cube → ℕ → State
-  Redundant : ℕ → State
-  Covered : ℕ → State
+use Rattle.faults.specs.Cubes.{Cube}
+use Rattle.folder.specs.declared.state.State.{State}
+use Rattle.folder.specs.declared.state.State.TheVariants.{Open, Spent, Fewest, Redundant, Covered}
 
 -- a fault, and what is known of it
 pub record Entry : Type 0 where
@@ -29,23 +17,7 @@ pub record Entry : Type 0 where
 abbrev pub with_state : Entry → State → Entry
 with_state e s = record { fault = e.fault; state = s }
 
--- what a state of the code stands for
-abbrev pub state_model : code_state.State → State
-state_model state.Open = Open
-state_model (state.Spent cube tries) = Spent (option_map cube_model cube) tries
-state_model (state.Fewest cube tries) = Fewest (cube_model cube) tries
-state_model (state.Redundant tries) = Redundant tries
-state_model (state.Covered by) = Covered by
-
--- what an entry of the code stands for
-abbrev pub entry_model : code_entry.Entry → Entry
-entry_model e = record { fault = e.fault; state = state_model e.state }
-
--- a new entry of a fault, as the code has it
-abbrev pub new_entry : Fault → code_entry.Entry
-new_entry f = record { fault = f; state = state.Open; few = zero-le }
-
--- a new entry of a fault, as the definitions have it
+-- a new entry of a fault
 abbrev pub opened : Fault → Entry
 opened f = record { fault = f; state = Open }
 

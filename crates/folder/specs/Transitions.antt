@@ -1,5 +1,6 @@
 -- What each call of a folder does to the table: its answer and the table afterwards, or why it is refused.
-use Rattle.std.specs.Prelude.{◌≡◌, ℕ, true, cond, List, [], ◌∷◌, ◌++◌, length, is_ok, Some, None, Ok, Err, Option, Result, nat_le}
+use Rattle.std.specs.Prelude.{◌≡◌, ℕ, true, cond, List, [], ◌∷◌, ◌++◌, length, is_ok, Ok, Err, Result, nat_le}
+use Rattle.std.specs.Option.{ok_or}
 use Rattle.std.specs.List.{slice_get}
 use Rattle.refusals.specs.declared.cause.Refusal.{Refusal}
 use Rattle.refusals.specs.declared.cause.Refusal.TheVariants as refusal
@@ -40,12 +41,8 @@ and_then (Ok a) next = next a
 and_then (Err e) next = Err e
 
 -- the entry of that number
-abbrev pub found_entry : Option Entry → Result Entry FolderRefusal
-found_entry None = Err NoSuchEntry
-found_entry (Some e) = Ok e
-
 abbrev pub entry_at : List Entry → ℕ → Result Entry FolderRefusal
-entry_at table number = found_entry (slice_get table number)
+entry_at table number = ok_or (slice_get table number) NoSuchEntry
 
 -- enter what was made of the arguments
 abbrev pub entered : List Entry → Result Fault FolderRefusal → Result (Granted ℕ) FolderRefusal

@@ -1,10 +1,8 @@
 // The calls of a folder.
 ghost use Rattle.std.specs.Prelude.{◌≡◌, ◌+◌, ◌<◌, ◌≤◌, [], ◌∷◌, ◌++◌, map, length, is_ok, if◌then◌else◌, vec_len, MatchResult, nat_le};
-ghost use Rattle.std.specs.Result.{result_map_both};
 ghost use Rattle.std.specs.List.{slice_get};
 ghost use Rattle.refusals.specs.declared.cause.Refusal.TheVariants.{Memory};
-ghost use Rattle.folder.specs.Entries.{entry_model, new_entry, has_fault};
-ghost use Rattle.folder.specs.Folders.{folder_model};
+ghost use Rattle.folder.specs.Entries.{opened, has_fault};
 ghost use Rattle.folder.specs.Transitions.{Follows, entry_at, enter_fault};
 
 use crate::entry::Entry;
@@ -16,7 +14,7 @@ use std::alloc::Global;
 
 // Whether some entry has that fault.
 fn has_fault(entries: &[Entry], fault: Fault) -> bool
-    ensures { result ≡ has_fault (map entry_model entries.now) fault }
+    ensures { result ≡ has_fault entries.now fault }
 {
     entries.iter().any(|entry| entry.fault() == fault)
 }
@@ -24,7 +22,7 @@ fn has_fault(entries: &[Entry], fault: Fault) -> bool
 // Adds an open entry of the fault at the end, and answers its number.
 fn add(entries: &mut Vec<Entry>, fault: Fault) -> Result<usize, Refusal>
     ensures value { MatchResult result (λ n. n ≡ vec_len entries.old) (λ e. e ≡ Memory) }
-    ensures items { entries.new.items ≡ (if is_ok result then entries.old.items ++ (new_entry fault ∷ []) else entries.old.items) }
+    ensures items { entries.new.items ≡ (if is_ok result then entries.old.items ++ (opened fault ∷ []) else entries.old.items) }
     ensures len { vec_len entries.new ≡ (if is_ok result then vec_len entries.old + 1 else vec_len entries.old) }
 {
     let number = entries.len();
@@ -35,7 +33,7 @@ fn add(entries: &mut Vec<Entry>, fault: Fault) -> Result<usize, Refusal>
 impl Folder {
     // An empty folder for that circuit.
     pub fn new(heap: Global, circuit: Circuit) -> Folder
-        ensures table { result.entries.items ≡ [] }
+        ensures table { result.table ≡ [] }
         ensures circuit { result.circuit ≡ circuit }
     {
         Folder {
@@ -53,7 +51,7 @@ impl Folder {
 
     // The table, in the order in which the faults were entered.
     pub fn entries(&self) -> &[Entry]
-        ensures value { result.now ≡ self.now.entries.items }
+        ensures value { result.now ≡ self.now.table }
         ensures bound { length result.now ≤ 512 }
     {
         self.entries.as_slice()
@@ -61,29 +59,30 @@ impl Folder {
 
     // The entry of that number.
     pub fn entry(&self, number: usize) -> Option<Entry>
-        ensures { result ≡ slice_get self.now.entries.items number }
+        ensures { result ≡ slice_get self.now.table number }
     {
         self.entries.get(number).copied()
     }
 
     // The entry of that number, or the refusal where there is none.
     pub(crate) fn entry_at(&self, number: usize) -> Result<Entry, FolderRefusal>
-        ensures value { result_map_both entry_model (λ e. e) result ≡ entry_at (folder_model self.now).table number }
-        ensures inside { MatchResult result (λ _. number < vec_len self.now.entries) (λ _. vec_len self.now.entries ≤ number) }
+        ensures value { result ≡ entry_at self.now.table number }
+        ensures inside { MatchResult result (λ _. number < length self.now.table) (λ _. length self.now.table ≤ number) }
     {
         self.entry(number).ok_or(FolderRefusal::NoSuchEntry)
     }
 
     // Whether the table has no room left.
     fn is_full(&self) -> bool
-        ensures { result ≡ nat_le 512 (length self.now.entries.items) }
+        ensures { result ≡ nat_le 512 (length self.now.table) }
     {
         self.entries.len() >= MOST_ENTRIES
     }
 
-    // Adds an open entry for the fault that is asked for, and answers its number.
+    // Adds an open entry for the fault that is asked for, and answers its number. (That the circuit stays is a clause by itself
+    // in each call, since the definitions say what becomes of the table: a word for it would be no shorter.)
     pub fn enter(&mut self, asked: StuckAt) -> Result<usize, Refusal>
-        ensures table { Follows (enter_fault (folder_model self.old) asked.line asked.pin asked.level) (folder_model self.old).table result (folder_model self.new).table }
+        ensures table { Follows (enter_fault self.old asked.line asked.pin asked.level) self.old.table result self.new.table }
         ensures circuit { self.new.circuit ≡ self.old.circuit }
     {
         let fault = Fault::new(&self.circuit, asked)?;

@@ -1,9 +1,7 @@
 // How entries come to be, and what a caller can ask of one.
 ghost use Rattle.std.specs.Prelude.{◌≡◌, ◌≤◌};
-ghost use Rattle.std.specs.Option.{option_map};
-ghost use Rattle.faults.specs.Cubes.{cube_model};
 ghost use Rattle.folder.specs.Tries.{tries};
-ghost use Rattle.folder.specs.Entries.{state_model, new_entry, state_cube, state_count, state_settled};
+ghost use Rattle.folder.specs.Entries.{opened, with_state, state_cube, state_count, state_settled};
 
 use crate::entry::Entry;
 use crate::state::State;
@@ -12,7 +10,7 @@ use faults::{Cube, Fault};
 impl Entry {
     // An open entry of that fault.
     pub(crate) fn new(fault: Fault) -> Entry
-        ensures { result ≡ new_entry fault }
+        ensures { result ≡ opened fault }
     {
         Entry {
             fault,
@@ -23,8 +21,7 @@ impl Entry {
     // The entry in another state.
     pub(crate) fn in_state(self, state: State) -> Entry
         requires { tries state ≤ 1000000 }
-        ensures fault { result.fault ≡ self.fault }
-        ensures state { result.state ≡ state }
+        ensures { result ≡ with_state self state }
     {
         Entry {
             fault: self.fault,
@@ -46,7 +43,7 @@ impl Entry {
 
     // The cube that the state holds, if it holds one.
     pub fn cube(&self) -> Option<Cube>
-        ensures { option_map cube_model result ≡ state_cube (state_model self.now.state) }
+        ensures { result ≡ state_cube self.now.state }
     {
         match self.state {
             State::Spent { cube, .. } => cube,
@@ -57,7 +54,7 @@ impl Entry {
 
     // The tries made, or the number of the entry that covers this one; 0 of an open entry.
     pub fn count(&self) -> usize
-        ensures { result ≡ state_count (state_model self.now.state) }
+        ensures { result ≡ state_count self.now.state }
     {
         match self.state {
             State::Open => 0,
@@ -69,7 +66,7 @@ impl Entry {
 
     // Whether nothing is left to do: fewest, redundant or covered.
     pub fn is_settled(&self) -> bool
-        ensures { result ≡ state_settled (state_model self.now.state) }
+        ensures { result ≡ state_settled self.now.state }
     {
         !matches!(self.state, State::Open | State::Spent { .. })
     }

@@ -1,15 +1,14 @@
 // What is known of a fault. (The answers of a visit are cases of their own here: an entry has one of five states, each with a name
 // that a listing writes.)
 ghost use Rattle.std.specs.Prelude.{◌≡◌, Some};
-ghost use Rattle.visit.specs.Visits.{answer_model};
-ghost use Rattle.folder.specs.Entries.{state_model, state_word};
+ghost use Rattle.folder.specs.Entries.{state_word};
 ghost use Rattle.folder.specs.Searching.{filed};
 
 use faults::Cube;
 use std::fmt;
 use visit::Answer;
 
-#[derive(Clone, Copy)]
+#[derive(Clone, Copy, Debug, PartialEq, Eq)]
 pub enum State {
     // nothing yet
     Open,
@@ -25,7 +24,7 @@ pub enum State {
 
 // The state that keeps the answer of a visit.
 impl From<Answer> for State {
-    ghost from_gives = { λ a s. state_model s ≡ filed (answer_model a) };
+    ghost from_gives = { λ a s. s ≡ filed a };
 
     fn from(answer: Answer) -> State {
         match answer {
@@ -38,7 +37,7 @@ impl From<Answer> for State {
 
 // The word of a state.
 impl fmt::Display for State {
-    ghost output = { λ s. Some (state_word (state_model s)) };
+    ghost output = { λ s. Some (state_word s) };
 
     fn fmt<W: fmt::Write>(&self, f: &mut fmt::Formatter<W>) -> fmt::Result {
         f.write_str(match self {

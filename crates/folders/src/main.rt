@@ -1,7 +1,6 @@
 // The program `folders`: a circuit text and job lines from standard input, a reply to each on standard output.
 #![tactic(auto)]
 
-use anyhow::Context;
 use circuit::Circuit;
 use folder::Folder;
 use reader::read;
@@ -19,8 +18,7 @@ fn answer_jobs(
 ) -> anyhow::Result<()> {
     let mut place = start;
     for _ in text {
-        let answer = session.answer(rt.alloc(), text, place).ok();
-        let Some(Answer { reply, next }) = answer.context("out of memory")? else {
+        let Some(Answer { reply, next }) = session.answer(rt.alloc(), text, place)? else {
             return Ok(());
         };
         print!(rt; "{reply}")?;
@@ -40,7 +38,7 @@ fn run(rt: &HostRuntime) -> anyhow::Result<()> {
             answer_jobs(rt, &mut session, &text, rest.place)
         }
         Err(refusal) => {
-            let cause = refusal.cause().context("out of memory")?;
+            let cause = refusal.cause().ok_or(refusal)?;
             let reply = Reply::Refused { cause };
             print!(rt; "{reply}")?;
             Ok(())

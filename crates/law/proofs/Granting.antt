@@ -1,20 +1,25 @@
 -- What a call that is granted came from.
 use Rattle.std.proofs.Common.{◌≡◌, ℕ, Bool, true, false, cond, not, leb, List, [], ◌∷◌, ◌++◌, length, Some, None, Ok, Err, Option, Result, sym, refl, ap, arith}
+use Rattle.std.specs.Option.{ok_or}
 use Rattle.std.specs.Result.{result_map_both}
 use Rattle.refusals.specs.declared.layers.FolderRefusal.{FolderRefusal}
-use Rattle.refusals.specs.declared.layers.FolderRefusal.TheVariants.{AlreadyEntered, FolderFull, EntrySettled, BudgetOutOfRange, BudgetNotAbove}
+use Rattle.refusals.specs.declared.layers.FolderRefusal.TheVariants.{AlreadyEntered, FolderFull, NoSuchEntry, EntrySettled, BudgetOutOfRange, BudgetNotAbove}
 use Rattle.values.specs.Kind.{Kind}
 use Rattle.circuit.specs.Model.{Circuit}
 use Rattle.faults.specs.declared.fault.Fault.{Fault}
 use Rattle.faults.specs.Cubes.{Cube}
 use Rattle.simulator.specs.Simulation.{row_allowed}
-use Rattle.visit.specs.Visiting.{Answer, answer}
+use Rattle.visit.specs.declared.answer.Answer.{Answer}
+use Rattle.visit.specs.Visiting.{answer}
 use Rattle.visit.specs.Visits.{answer_in}
-use Rattle.folder.specs.Entries.{State, Open, Spent, Fewest, Redundant, Covered, Entry, opened, has_fault, state_settled, state_count}
-use Rattle.folder.specs.Transitions.{Granted, granted, and_then, entered, found_entry}
+use Rattle.folder.specs.declared.state.State.{State}
+use Rattle.folder.specs.declared.state.State.TheVariants.{Open, Spent, Fewest, Redundant, Covered}
+use Rattle.folder.specs.Entries.{Entry, opened, has_fault, state_settled, state_count}
+use Rattle.folder.specs.Transitions.{Granted, granted, and_then, entered}
 use Rattle.folder.specs.Searching.{budget_in_range, search_allowed}
 use Rattle.folder.specs.Covering.{fewest_cube}
-use Rattle.law.specs.Histories.{Outcome, answered_as}
+use Rattle.law.specs.declared.call.Outcome.{Outcome}
+use Rattle.law.specs.Histories.{answered_as}
 use Rattle.law.proofs.Places.{zero_not_one}
 
 -- a refusal is no grant
@@ -48,7 +53,7 @@ entered_granted table (Ok f) g h = (f, go (has_fault table f) (leb 512 (length t
     go false true h = absurd (no_grant FolderFull g h)
     go false false h = ap (λ (x : Granted ℕ). x.table) (sym (ok_same (granted (length table) (table ++ (opened f ∷ []))) g h))
 
-pub found_granted : (o : Option Entry) (e : Entry) → found_entry o ≡ Ok e → o ≡ Some e
+pub found_granted : (o : Option Entry) (e : Entry) → ok_or o NoSuchEntry ≡ Ok e → o ≡ Some e
 found_granted None e h = absurd (zero_not_one cc)
 found_granted (Some x) e h = ap Some (ok_same x e h)
 

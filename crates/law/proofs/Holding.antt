@@ -14,20 +14,23 @@ use Rattle.faults.specs.Cubes.{Cube}
 use Rattle.faults.specs.declared.fault.StuckAt.{StuckAt}
 use Rattle.faults.specs.Faults.{fault_made}
 use Rattle.simulator.specs.Simulation.{simulation_allowed}
-use Rattle.visit.specs.Visiting as visiting
+use Rattle.visit.specs.declared.answer.Answer.{Answer}
 use Rattle.visit.specs.Visits.{answer_in}
 use Rattle.visit.specs.Meaning.{Test, Undetectable, Means}
 use Rattle.visit.proofs.Meanings.{answer_means}
-use Rattle.folder.specs.Entries.{State, Open, Spent, Fewest, Redundant, Covered, Entry, state_cube}
+use Rattle.folder.specs.declared.state.State.{State}
+use Rattle.folder.specs.declared.state.State.TheVariants.{Open, Spent, Fewest, Redundant, Covered}
+use Rattle.folder.specs.Entries.{Entry, state_cube}
 use Rattle.folder.specs.Folders.{Folder}
 use Rattle.folder.specs.Transitions.{Granted, granted, Follows, entry_at, enter_fault}
 use Rattle.folder.specs.Searching.{search_allowed, file_answer, search_entry}
 use Rattle.folder.specs.Covering.{fewest_cube, mark_covered, cover_entry}
 use Rattle.law.specs.declared.call.Call.{Call}
 use Rattle.law.specs.declared.call.Call.TheVariants.{Enter, Search, Cover}
-use Rattle.law.specs.Histories as histories
-use Rattle.law.specs.Histories.{Event, Outcome, Entered, Searched, defined, Step, Run, start, next}
-use Rattle.law.specs.Sound.{is_unspent_outcome, searches, SearchedUnspent, IsRedundant, Sound}
+use Rattle.law.specs.declared.call.Outcome.{Outcome}
+use Rattle.law.specs.declared.call.Outcome.TheVariants as outcome
+use Rattle.law.specs.Histories.{Event, defined, Step, Run, start, next}
+use Rattle.law.specs.Sound.{is_unspent_outcome, searches, SearchedUnspent, IsRedundant, Sound, KeepsLaw}
 use Rattle.law.proofs.Granting.{ok_same, both_granted, named_granted, entered_granted, found_granted, allowed_unsettled, answered_is, fewest_state}
 use Rattle.law.proofs.Keeping.{Known, Kept, kept_first, kept_same, kept_entered, kept_filed, kept_covered}
 use Rattle.law.proofs.Places.{zero_not_one}
@@ -43,7 +46,7 @@ module _ (K : Kind) (M : Pairs → Type 0) (l : Lawful K M) (c : Circuit) where
     entered_keeps : (asked : StuckAt) (o : Outcome) → defined K (folder before) (Enter asked) places ≡ Ok (granted o after)
         → Kept K c (event (Enter asked) places (Ok o) ∷ history) after
     entered_keeps asked o h =
-        let (g, made, named, left) = named_granted Entered (enter_fault (folder before) asked.line asked.pin asked.level) o after h in
+        let (g, made, named, left) = named_granted outcome.Entered (enter_fault (folder before) asked.line asked.pin asked.level) o after h in
         let (f, table) = entered_granted before (fault_made c asked.line asked.pin asked.level) g made in
         subst (λ (t : List Entry). Kept K c (event (Enter asked) places (Ok o) ∷ history) t) (sym (left ∙ table))
         (kept_entered K c history (event (Enter asked) places (Ok o)) before k f (λ n. refl))
@@ -51,22 +54,22 @@ module _ (K : Kind) (M : Pairs → Type 0) (l : Lawful K M) (c : Circuit) where
     searched_keeps : (number budget : ℕ) (o : Outcome) → defined K (folder before) (Search number budget) places ≡ Ok (granted o after)
         → Kept K c (event (Search number budget) places (Ok o) ∷ history) after
     searched_keeps number budget o h =
-        let (g, is, named, left) = named_granted Searched (search_entry K (folder before) number budget places) o after h in
+        let (g, is, named, left) = named_granted outcome.Searched (search_entry K (folder before) number budget places) o after h in
         let (x, found, second) = both_granted (entry_at before number) _ g is in
         let (u, allowed, third) = both_granted (search_allowed x.state budget) _ g second in
         let (a, answered, last) = both_granted (answer_in K c x.fault budget places) _ g third in
         let filed-as : g ≡ file_answer before number x a = sym (ok_same (file_answer before number x a) g last) in
-        let outcome : o ≡ Searched a = named ∙ ap (λ (y : Granted visiting.Answer). Searched y.answer) filed-as in
-        subst (λ (t : List Entry). Kept K c (event (Search number budget) places (Ok o) ∷ history) t) (sym (left ∙ ap (λ (y : Granted visiting.Answer). y.table) filed-as))
+        let named-as : o ≡ outcome.Searched a = named ∙ ap (λ (y : Granted Answer). outcome.Searched y.answer) filed-as in
+        subst (λ (t : List Entry). Kept K c (event (Search number budget) places (Ok o) ∷ history) t) (sym (left ∙ ap (λ (y : Granted Answer). y.table) filed-as))
         (kept_filed K c history (event (Search number budget) places (Ok o)) before k number x (found_granted _ x found) (allowed_unsettled x.state budget u allowed) a
-        (subst (λ (y : visiting.Answer). Means K c x.fault y) (answered_is K c x.fault budget places a answered) (answer_means K M l c x.fault budget))
+        (subst (λ (y : Answer). Means K c x.fault y) (answered_is K c x.fault budget places a answered) (answer_means K M l c x.fault budget))
         (λ n ne. ap (λ (b : Bool). b && is_unspent_outcome o) (ne_eqb number n (λ e. ne (sym e))))
-        (ap (λ (b : Bool). b && is_unspent_outcome o) (eq-eqb number number refl) ∙ ap is_unspent_outcome outcome))
+        (ap (λ (b : Bool). b && is_unspent_outcome o) (eq-eqb number number refl) ∙ ap is_unspent_outcome named-as))
 
     covered_keeps : (number : ℕ) (o : Outcome) → defined K (folder before) (Cover number) places ≡ Ok (granted o after)
         → Kept K c (event (Cover number) places (Ok o) ∷ history) after
     covered_keeps number o h =
-        let (g, is, named, left) = named_granted histories.Covered (cover_entry K (folder before) number places) o after h in
+        let (g, is, named, left) = named_granted outcome.Covered (cover_entry K (folder before) number places) o after h in
         let (x, found, second) = both_granted (entry_at before number) _ g is in
         let (q, fewest, third) = both_granted (fewest_cube x.state) _ g second in
         let (u, allowed, last) = both_granted (simulation_allowed c q places) _ g third in
@@ -138,7 +141,8 @@ module _ (K : Kind) (M : Pairs → Type 0) (l : Lawful K M) (c : Circuit) where
     }
 
   -- one call more
-  pub law_step : (e : Event) (before after : List Entry) → Step K c e before after → (history : List Event) → Run K c history before → Run K c (e ∷ history) after × Sound K c (e ∷ history) after
-  law_step e before after step history run =
-      let longer : Run K c (e ∷ history) after = next run step in
-      (longer, kept_sound (e ∷ history) after (run_keeps (e ∷ history) after longer))
+  pub keeps_law : (before after : Folder) (e : Event) → before.circuit ≡ c → after.circuit ≡ c → Step K c e before.table after.table → KeepsLaw K before e after
+  keeps_law before after e was is step history run =
+      let longer : Run K c (e ∷ history) after.table = next (subst (λ (d : Circuit). Run K d history before.table) was run) step in
+      subst (λ (d : Circuit). Run K d (e ∷ history) after.table × Sound K d (e ∷ history) after.table) (sym is)
+      (longer, kept_sound (e ∷ history) after.table (run_keeps (e ∷ history) after.table longer))

@@ -11,9 +11,12 @@ use Rattle.faults.specs.declared.fault.Fault.{Fault}
 use Rattle.faults.specs.Cubes.{Cube}
 use Rattle.simulator.specs.Detection.{detected}
 use Rattle.simulator.proofs.Telling.{shown_are_tests}
-use Rattle.visit.specs.Visiting as visiting
+use Rattle.visit.specs.declared.answer.Answer.{Answer}
+use Rattle.visit.specs.declared.answer.Answer.TheVariants as answer
 use Rattle.visit.specs.Meaning.{Test, Unbeaten, Undetectable, Means}
-use Rattle.folder.specs.Entries.{State, Open, Spent, Fewest, Redundant, Covered, Entry, opened, with_state, state_settled}
+use Rattle.folder.specs.declared.state.State.{State}
+use Rattle.folder.specs.declared.state.State.TheVariants.{Open, Spent, Fewest, Redundant, Covered}
+use Rattle.folder.specs.Entries.{Entry, opened, with_state, state_settled}
 use Rattle.folder.specs.Searching.{filed}
 use Rattle.folder.specs.Covering.{is_covered, marked}
 use Rattle.law.specs.Histories.{Event}
@@ -114,14 +117,14 @@ module _ (K : Kind) (c : Circuit) where
       backed_set : (y : Entry) (g : Fault) (m : ℕ) → Backed table g m → Backed (set table number y) g m
       backed_set y g m (d, q, tries, at, is, test) = (d, q, tries, nth_set_other table number m y (not_backing d q tries m at is) ∙ at, is, test)
 
-      known_here : (after : List Entry) (a : visiting.Answer) → Means K c x.fault a → is_unspent_search number event ≡ is_unspent a
+      known_here : (after : List Entry) (a : Answer) → Means K c x.fault a → is_unspent_search number event ≡ is_unspent a
           → Known (event ∷ history) after number x.fault (filed a)
-      known_here after (visiting.Fewest q tries) m o = m
-      known_here after (visiting.Redundant tries) m o = (ap (λ (b : Bool). b || list_any (is_unspent_search number) history) o, m)
-      known_here after (visiting.Spent None tries) m o = idle_same number o ∙ unsearched_before
-      known_here after (visiting.Spent (Some q) tries) m o = (idle_same number o ∙ unsearched_before, m)
+      known_here after (answer.Fewest q tries) m o = m
+      known_here after (answer.Redundant tries) m o = (ap (λ (b : Bool). b || list_any (is_unspent_search number) history) o, m)
+      known_here after (answer.Spent None tries) m o = idle_same number o ∙ unsearched_before
+      known_here after (answer.Spent (Some q) tries) m o = (idle_same number o ∙ unsearched_before, m)
 
-      module _ (a : visiting.Answer) (means : Means K c x.fault a) (others : (n : ℕ) → (n ≡ number → ⊥) → is_unspent_search n event ≡ false) (own : is_unspent_search number event ≡ is_unspent a) where
+      module _ (a : Answer) (means : Means K c x.fault a) (others : (n : ℕ) → (n ≡ number → ⊥) → is_unspent_search n event ≡ false) (own : is_unspent_search number event ≡ is_unspent a) where
         abbrev new : Entry
         new = with_state x (filed a)
 

@@ -6,8 +6,6 @@ use Rattle.refusals.specs.declared.cause.Refusal.TheVariants.{Memory}
 use Rattle.refusals.specs.declared.layers.FolderRefusal.{FolderRefusal}
 use Rattle.values.specs.Kind.{Kind}
 use Rattle.circuit.specs.Model.{Circuit}
-use Rattle.visit.specs.Visiting.{Answer}
-use Rattle.visit.specs.Visits.{answer_model}
 use Rattle.folder.specs.Entries.{Entry}
 use Rattle.folder.specs.Folders.{Folder}
 use Rattle.folder.specs.Transitions.{Granted, granted, Follows, enter_fault}
@@ -15,19 +13,8 @@ use Rattle.folder.specs.Searching.{search_entry}
 use Rattle.folder.specs.Covering.{cover_entry}
 use Rattle.law.specs.declared.call.Call.{Call}
 use Rattle.law.specs.declared.call.Call.TheVariants.{Enter, Search, Cover}
-use Rattle.law.specs.declared.call.Outcome as code
-use Rattle.law.specs.declared.call.Outcome.TheVariants as code_outcome
-
--- what a granted call answers
-pub data Outcome : Type 0 where
-  Entered : ℕ → Outcome
-  Searched : Answer → Outcome
-  Covered : ℕ → Outcome
-
-abbrev pub outcome_model : code.Outcome → Outcome
-outcome_model (code_outcome.Entered number) = Entered number
-outcome_model (code_outcome.Searched answer) = Searched (answer_model answer)
-outcome_model (code_outcome.Covered count) = Covered count
+use Rattle.law.specs.declared.call.Outcome.{Outcome}
+use Rattle.law.specs.declared.call.Outcome.TheVariants.{Entered, Searched, Covered}
 
 -- a call, the places of the row that it was given, and its answer or refusal
 pub record Event : Type 0 where
@@ -35,8 +22,8 @@ pub record Event : Type 0 where
   pub places : ℕ
   pub result : Result Outcome Refusal
 
-abbrev pub event_of : Call → ℕ → Result code.Outcome Refusal → Event
-event_of call places r = record { call = call; places = places; result = result_map_both outcome_model (λ (e : Refusal). e) r }
+abbrev pub event_of : Call → ℕ → Result Outcome Refusal → Event
+event_of call places r = record { call = call; places = places; result = r }
 
 -- an answer under its name
 abbrev pub answered_as : {A : Type 0} → (A → Outcome) → Result (Granted A) FolderRefusal → Result (Granted Outcome) FolderRefusal

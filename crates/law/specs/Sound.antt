@@ -1,30 +1,35 @@
 -- The law of the folder, for a value kind, a circuit and a history of calls: what the entries of the table say of vectors
 -- and cubes. It speaks of vectors, of cubes that the kind shows to detect a fault, and of the calls made, and of no step of
 -- the program.
-use Rattle.std.specs.Prelude.{◌≡◌, ℕ, Bool, true, false, ◌&&◌, List, Some, Ok, Err, Result, ◌==◌}
+use Rattle.std.specs.Prelude.{◌≡◌, ℕ, Bool, true, false, ◌&&◌, List, ◌∷◌, Some, Ok, Err, Result, ◌==◌}
 use Rattle.std.specs.List.{slice_get, list_any}
 use Rattle.refusals.specs.declared.cause.Refusal.{Refusal}
 use Rattle.values.specs.Kind.{Kind}
 use Rattle.circuit.specs.Model.{Circuit}
 use Rattle.faults.specs.Cubes.{Cube}
-use Rattle.visit.specs.Visiting as visiting
+use Rattle.visit.specs.declared.answer.Answer.{Answer}
+use Rattle.visit.specs.declared.answer.Answer.TheVariants as answer
 use Rattle.visit.specs.Meaning.{Test, Unbeaten, Undetectable}
-use Rattle.folder.specs.Entries.{State, Fewest, Redundant, Covered, Entry, state_cube}
+use Rattle.folder.specs.declared.state.State.{State}
+use Rattle.folder.specs.declared.state.State.TheVariants.{Fewest, Redundant, Covered}
+use Rattle.folder.specs.Entries.{Entry, state_cube}
+use Rattle.folder.specs.Folders.{Folder}
 use Rattle.law.specs.declared.call.Call.{Call}
 use Rattle.law.specs.declared.call.Call.TheVariants.{Enter, Search, Cover}
-use Rattle.law.specs.Histories as histories
-use Rattle.law.specs.Histories.{Event, Outcome, Entered, Searched}
+use Rattle.law.specs.declared.call.Outcome.{Outcome}
+use Rattle.law.specs.declared.call.Outcome.TheVariants as outcome
+use Rattle.law.specs.Histories.{Event, Run}
 
--- an answer of a search that was not spent
-abbrev pub is_unspent : visiting.Answer → Bool
-is_unspent (visiting.Fewest cube tries) = true
-is_unspent (visiting.Redundant tries) = true
-is_unspent (visiting.Spent best tries) = false
+-- an answer that was not spent
+abbrev pub is_unspent : Answer → Bool
+is_unspent (answer.Fewest cube tries) = true
+is_unspent (answer.Redundant tries) = true
+is_unspent (answer.Spent best tries) = false
 
 abbrev pub is_unspent_outcome : Outcome → Bool
-is_unspent_outcome (Entered number) = false
-is_unspent_outcome (Searched a) = is_unspent a
-is_unspent_outcome (histories.Covered count) = false
+is_unspent_outcome (outcome.Entered number) = false
+is_unspent_outcome (outcome.Searched a) = is_unspent a
+is_unspent_outcome (outcome.Covered count) = false
 
 abbrev pub is_granted_unspent : Result Outcome Refusal → Bool
 is_granted_unspent (Ok o) = is_unspent_outcome o
@@ -35,11 +40,11 @@ searches number (Enter asked) = false
 searches number (Search n budget) = n == number
 searches number (Cover n) = false
 
--- the event is a granted search of that entry, and was not spent
+-- the event searched that entry: it was granted, and not spent
 abbrev pub is_unspent_search : ℕ → Event → Bool
 is_unspent_search number e = searches number e.call && is_granted_unspent e.result
 
--- some granted search of that entry was not spent
+-- some event searched that entry, was granted, and not spent
 abbrev pub SearchedUnspent : List Event → ℕ → Type 0
 SearchedUnspent history number = list_any (is_unspent_search number) history ≡ true
 
@@ -58,7 +63,14 @@ pub record Sound (K : Kind) (c : Circuit) (history : List Event) (table : List E
       → (d : Entry) × (q : Cube) × EntryAt table m d × (state_cube d.state ≡ Some q) × Test c e.fault q
   -- no cube that the kind shows to detect the fault of a fewest entry drives fewer inputs than the entry's cube
   pub fewest : (n : ℕ) (e : Entry) → EntryAt table n e → (q : Cube) (tries : ℕ) → e.state ≡ Fewest q tries → Unbeaten K c e.fault q
-  -- a redundant entry was searched, by a granted search that was not spent, and no vector detects its fault
+  -- a redundant entry was searched, by an event that was granted and not spent, and no vector detects its fault
   pub redundant : (n : ℕ) (e : Entry) → EntryAt table n e → IsRedundant e.state → SearchedUnspent history n × Undetectable c e.fault
   -- an entry that was so searched, and whose fault no vector detects, is redundant
   pub marked : (n : ℕ) (e : Entry) → EntryAt table n e → SearchedUnspent history n → Undetectable c e.fault → IsRedundant e.state
+
+-- The law outlasts an event that leads from one folder to the next: after any history that led from the empty table to the first
+-- folder's, the history with this event leads to the next folder's table, and the law holds there.
+abbrev pub KeepsLaw : Kind → Folder → Event → Folder → Type 0
+KeepsLaw K before e after =
+    (history : List Event) → Run K before.circuit history before.table
+    → Run K after.circuit (e ∷ history) after.table × Sound K after.circuit (e ∷ history) after.table

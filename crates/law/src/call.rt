@@ -3,17 +3,17 @@
 use faults::StuckAt;
 use visit::Answer;
 
-#[derive(Clone, Copy)]
+#[derive(Clone, Copy, Debug, PartialEq, Eq)]
 pub enum Call {
     // enter the fault that is asked for
     Enter { fault: StuckAt },
-    // search the entry of that number in at most so many tries
+    // look for a test for the entry of that number, in at most so many tries
     Search { number: usize, budget: usize },
     // cover by the entry of that number
     Cover { number: usize },
 }
 
-#[derive(Clone, Copy)]
+#[derive(Clone, Copy, Debug, PartialEq, Eq)]
 pub enum Outcome {
     // the number of the new entry
     Entered { number: usize },

@@ -1,10 +1,8 @@
 // Performing a call.
-ghost use Rattle.std.specs.Prelude.{◌≡◌, ℕ, List, ◌∷◌, length, None, MatchResult};
-ghost use Rattle.values.specs.Kind.{Kind};
-ghost use Rattle.folder.specs.Folders.{folder_model};
-ghost use Rattle.law.specs.declared.call.Call.TheVariants as asked;
-ghost use Rattle.law.specs.Histories.{Event, event_of, Step, Run};
-ghost use Rattle.law.specs.Sound.{Sound};
+ghost use Rattle.std.specs.Prelude.{◌≡◌, length};
+ghost use Rattle.simulator.specs.Callers.{RowKept, SocketStaysEmpty};
+ghost use Rattle.law.specs.Histories.{event_of, Step};
+ghost use Rattle.law.specs.Sound.{KeepsLaw};
 
 use crate::call::{Call, Outcome};
 use folder::Folder;
@@ -12,17 +10,19 @@ use refusals::Refusal;
 use simulator::Socket;
 use values::kind::ValueKind;
 
-// Does what the call asks for.
-fn act<V: ValueKind>(
+// Performs a call on the folder, under the kind of the row's values. Its contract says what the call does, by the
+// definitions (step), and that the law of the folder outlasts it (law).
+pub fn perform<V: ValueKind>(
     folder: &mut Folder,
     call: Call,
     socket: &mut Socket,
     row: &mut [V],
 ) -> Result<Outcome, Refusal>
-    ensures step { Step V.ValueKind.kind (folder_model folder.old).circuit (event_of call (length row.old) result) (folder_model folder.old).table (folder_model folder.new).table }
+    ensures step { Step V.ValueKind.kind folder.old.circuit (event_of call (length row.old) result) folder.old.table folder.new.table }
+    ensures law { KeepsLaw V.ValueKind.kind folder.old (event_of call (length row.old) result) folder.new }
     ensures circuit { folder.new.circuit ≡ folder.old.circuit }
-    ensures socket { MatchResult result (λ _. socket.old.fault ≡ None → socket.new.fault ≡ None) (λ _. socket.new ≡ socket.old) }
-    ensures row { MatchResult result (λ _. length row.new ≡ length row.old) (λ _. row.new ≡ row.old) }
+    ensures socket { SocketStaysEmpty result socket.old socket.new }
+    ensures row { RowKept result row.old row.new }
 {
     match call {
         Call::Enter { fault } => {
@@ -38,22 +38,4 @@ fn act<V: ValueKind>(
             Ok(Outcome::Covered { count })
         }
     }
-}
-
-// Performs a call on the folder, under the kind of the row's values. Its contract says what the call does, by the
-// definitions (step), and the law of the folder (law): after any history of calls under one kind that led from the empty
-// folder to this table, the history with this call leads to the table afterwards, and the law holds of it.
-pub fn perform<V: ValueKind>(
-    folder: &mut Folder,
-    call: Call,
-    socket: &mut Socket,
-    row: &mut [V],
-) -> Result<Outcome, Refusal>
-    ensures step { Step V.ValueKind.kind (folder_model folder.old).circuit (event_of call (length row.old) result) (folder_model folder.old).table (folder_model folder.new).table }
-    ensures law { (history : List Event) → Run V.ValueKind.kind (folder_model folder.old).circuit history (folder_model folder.old).table → Run V.ValueKind.kind (folder_model folder.new).circuit (event_of call (length row.old) result ∷ history) (folder_model folder.new).table × Sound V.ValueKind.kind (folder_model folder.new).circuit (event_of call (length row.old) result ∷ history) (folder_model folder.new).table }
-    ensures circuit { folder.new.circuit ≡ folder.old.circuit }
-    ensures socket { MatchResult result (λ _. socket.old.fault ≡ None → socket.new.fault ≡ None) (λ _. socket.new ≡ socket.old) }
-    ensures row { MatchResult result (λ _. length row.new ≡ length row.old) (λ _. row.new ≡ row.old) }
-{
-    act(folder, call, socket, row)
 }

@@ -1,5 +1,5 @@
 -- What a refusal is reported by: layer, number and place. Want of memory has none of these.
-use Rattle.std.specs.Prelude.{ℕ, List, Some, None, codes, Option}
+use Rattle.std.specs.Prelude.{ℕ, List, ◌++◌, Some, None, codes, decimal, Option}
 use Rattle.refusals.specs.declared.cause.Refusal.{Refusal}
 use Rattle.refusals.specs.declared.cause.Refusal.TheVariants.{Text, Form, Circuit, Folder, Memory}
 use Rattle.refusals.specs.declared.layers.TextRefusal.{TextRefusal}
@@ -41,3 +41,16 @@ layer_text layer.Text = codes "text"
 layer_text layer.Form = codes "form"
 layer_text layer.Circuit = codes "circuit"
 layer_text layer.Folder = codes "folder"
+
+-- how what a refusal is reported by is written
+abbrev pub cause_text : Cause → List ℕ
+cause_text c = layer_text c.layer ++ (codes " " ++ (decimal c.number ++ (codes " " ++ decimal c.place)))
+
+-- what is written where there may be nothing to report
+abbrev reported : Option Cause → List ℕ
+reported (Some c) = cause_text c
+reported None = codes "out of memory"
+
+-- how a refusal is written
+abbrev pub refusal_text : Refusal → List ℕ
+refusal_text r = reported (cause_of r)

@@ -1,11 +1,13 @@
 // A refusal of any layer, with the number, layer and place that it is reported by.
 ghost use Rattle.std.specs.Prelude.{◌≡◌, Some};
-ghost use Rattle.refusals.specs.Causes.{cause_of, layer_text};
+ghost use Rattle.refusals.specs.Causes.{cause_of, layer_text, cause_text, refusal_text};
 ghost use Rattle.refusals.specs.declared.cause.Refusal.TheVariants.{Text, Form, Circuit, Folder, Memory};
 
 use crate::layers::{CircuitRefusal, FolderRefusal, FormRefusal, TextRefusal};
 use std::alloc::{AllocError, AllocFailed};
+use std::error::Error;
 use std::fmt;
+use std::fmt::Display;
 
 // `Memory` is want of memory: it has no number.
 #[derive(Clone, Copy, Debug, PartialEq, Eq)]
@@ -110,3 +112,31 @@ impl fmt::Display for Layer {
         })
     }
 }
+
+// The layer, the number and the place, with a space between each two.
+impl fmt::Display for Cause {
+    ghost output = { λ c. Some (cause_text c) };
+
+    fn fmt<W: fmt::Write>(&self, f: &mut fmt::Formatter<W>) -> fmt::Result {
+        let Cause {
+            layer,
+            number,
+            place,
+        } = self;
+        write!(f, "{layer} {number} {place}")
+    }
+}
+
+// A refusal as it is written: what it is reported by, or that memory ran out.
+impl fmt::Display for Refusal {
+    ghost output = { λ r. Some (refusal_text r) };
+
+    fn fmt<W: fmt::Write>(&self, f: &mut fmt::Formatter<W>) -> fmt::Result {
+        match self.cause() {
+            Some(cause) => cause.fmt(f),
+            None => f.write_str("out of memory"),
+        }
+    }
+}
+
+impl Error for Refusal {}

@@ -1,9 +1,12 @@
 // The refusals of the four layers. A refusal of a text has the place of the word that failed: where that word begins,
 // where the line feed stands, or how long the text is if it failed by ending. A refusal of a call without text has none.
-ghost use Rattle.std.specs.Prelude.{◌≡◌};
-ghost use Rattle.refusals.specs.Causes.{text_cause, form_cause, circuit_cause, folder_cause};
+ghost use Rattle.std.specs.Prelude.{◌≡◌, Some};
+ghost use Rattle.refusals.specs.Causes.{text_cause, form_cause, circuit_cause, folder_cause, cause_text};
 
 use crate::cause::{Cause, Layer};
+use std::error::Error;
+use std::fmt;
+use std::fmt::Display;
 
 // The bytes and words themselves.
 #[derive(Clone, Copy, Debug, PartialEq, Eq)]
@@ -145,3 +148,14 @@ impl FolderRefusal {
         }
     }
 }
+
+// Written as what it is reported by.
+impl fmt::Display for FolderRefusal {
+    ghost output = { λ e. Some (cause_text (folder_cause e)) };
+
+    fn fmt<W: fmt::Write>(&self, f: &mut fmt::Formatter<W>) -> fmt::Result {
+        self.cause().fmt(f)
+    }
+}
+
+impl Error for FolderRefusal {}

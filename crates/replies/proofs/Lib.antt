@@ -1,2 +1,1 @@
 pub mod Levels
-pub mod Rows

@@ -1,11 +1,14 @@
 -- The lines that the program writes. Each ends with a line feed.
-use Rattle.std.specs.Prelude.{ℕ, ◌+◌, Bool, true, false, cond, List, [], ◌∷◌, ◌++◌, length, is_some, codes, decimal, Option, slice_index_or}
+use Rattle.std.specs.Prelude.{ℕ, ◌+◌, Bool, true, false, List, [], ◌∷◌, ◌++◌, length, is_some, codes, decimal, Option, slice_index_or}
+use Rattle.std.specs.List.{count_by}
 use Rattle.std.specs.declared.option.Option.TheVariants as option
 use Rattle.refusals.specs.declared.cause.Cause.{Cause}
-use Rattle.refusals.specs.Causes.{layer_text}
+use Rattle.refusals.specs.Causes.{cause_text}
 use Rattle.faults.specs.Cubes.{Cube}
 use Rattle.circuit.specs.Model.{Circuit, names}
-use Rattle.folder.specs.Entries.{State, Open, Spent, Fewest, Redundant, Covered, Entry, state_cube, state_count, state_word}
+use Rattle.folder.specs.declared.state.State.{State}
+use Rattle.folder.specs.declared.state.State.TheVariants.{Open, Spent, Fewest, Redundant, Covered}
+use Rattle.folder.specs.Entries.{Entry, state_cube, state_count, state_word}
 use Rattle.jobs.specs.declared.job.Kind.{Kind}
 use Rattle.jobs.specs.Kinds.{kind_text}
 use Rattle.replies.specs.Texts.{cube_text}
@@ -45,8 +48,7 @@ is_tested (Redundant tries) = false
 is_tested (Covered by) = true
 
 abbrev pub tested_count : List Entry → ℕ
-tested_count [] = 0
-tested_count (e ∷ es) = cond (is_tested e.state) 1 0 + tested_count es
+tested_count es = count_by (λ (e : Entry). is_tested e.state) es
 
 abbrev pub counts_line : ℕ → ℕ → List ℕ
 counts_line tested total = codes "(coverage " ++ (decimal tested ++ (codes " " ++ (decimal total ++ codes ")\n")))
@@ -61,5 +63,4 @@ abbrev pub entered_line : ℕ → List ℕ
 entered_line n = codes "(entry " ++ (decimal n ++ codes ")\n")
 
 abbrev pub refused_line : Cause → List ℕ
-refused_line c =
-    codes "(refused " ++ (layer_text c.layer ++ (codes " " ++ (decimal c.number ++ (codes " " ++ (decimal c.place ++ codes ")\n")))))
+refused_line c = codes "(refused " ++ (cause_text c ++ codes ")\n")

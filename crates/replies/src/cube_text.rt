@@ -1,8 +1,6 @@
 // A cube as it is written: for each input 0, 1 or x, or `none` where there is no cube.
-ghost use Rattle.std.specs.Prelude.{◌≡◌, ◌≤◌, Some};
-ghost use Rattle.std.specs.Option.{option_map};
+ghost use Rattle.std.specs.Prelude.{◌≡◌, Some};
 ghost use Rattle.std.specs.Fmt.{WritesOnOk};
-ghost use Rattle.faults.specs.Cubes.{cube_model};
 ghost use Rattle.replies.specs.Texts.{cube_text, levels, level_letter};
 
 use faults::Cube;
@@ -12,7 +10,6 @@ use std::fmt;
 pub struct CubeText {
     pub cube: Option<Cube>,
     pub inputs: usize,
-    ghost few: { inputs ≤ 64 },
 }
 
 // The letter of one input.
@@ -37,7 +34,7 @@ fn write_levels<W: fmt::Write>(cube: Cube, inputs: usize, f: &mut fmt::Formatter
 }
 
 impl fmt::Display for CubeText {
-    ghost output = { λ t. Some (cube_text (option_map cube_model t.cube) t.inputs) };
+    ghost output = { λ t. Some (cube_text t.cube t.inputs) };
 
     fn fmt<W: fmt::Write>(&self, f: &mut fmt::Formatter<W>) -> fmt::Result {
         match self.cube {

@@ -1,9 +1,7 @@
 // The line of an entry in a listing.
 ghost use Rattle.std.specs.Prelude.{Some};
 ghost use Rattle.std.specs.Option.{option_map};
-ghost use Rattle.circuit.specs.Tables.{name_bytes};
-ghost use Rattle.replies.specs.Lines.{name_text};
-ghost use Rattle.replies.specs.Replies.{entry_line_text};
+ghost use Rattle.replies.specs.Lines.{name_text, entry_line};
 
 use crate::cube_text::CubeText;
 use circuit::{Circuit, Name};
@@ -18,7 +16,7 @@ pub struct NameText<'a> {
 }
 
 impl fmt::Display for NameText<'_> {
-    ghost output = { λ t. Some (name_text (option_map (λ n. name_bytes n.now) t.name)) };
+    ghost output = { λ t. Some (name_text (option_map (λ n. n.now) t.name)) };
 
     fn fmt<W: fmt::Write>(&self, f: &mut fmt::Formatter<W>) -> fmt::Result {
         match self.name {
@@ -37,7 +35,7 @@ pub struct EntryLine<'a> {
 }
 
 impl fmt::Display for EntryLine<'_> {
-    ghost output = { λ t. Some (entry_line_text t) };
+    ghost output = { λ t. Some (entry_line t.circuit.now t.number t.entry) };
 
     fn fmt<W: fmt::Write>(&self, f: &mut fmt::Formatter<W>) -> fmt::Result {
         let fault = self.entry.fault();
@@ -46,7 +44,7 @@ impl fmt::Display for EntryLine<'_> {
             name: self.circuit.line_name(fault.line()),
         };
         let pin = fault.pin();
-        let level = if fault.level() { "1" } else { "0" };
+        let level = u8::from(fault.level());
         let state = self.entry.state();
         let cube = CubeText {
             cube: self.entry.cube(),

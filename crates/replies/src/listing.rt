@@ -1,8 +1,6 @@
 // The listing of a folder.
 ghost use Rattle.std.specs.Prelude.{◌≡◌, string_bytes, MatchResult};
 ghost use Rattle.refusals.specs.declared.cause.Refusal.TheVariants.{Memory};
-ghost use Rattle.folder.specs.Entries.{state_model};
-ghost use Rattle.folder.specs.Folders.{folder_model};
 ghost use Rattle.replies.specs.Lines.{is_tested, listing};
 
 use crate::entry_line::EntryLine;
@@ -12,7 +10,7 @@ use std::alloc::Global;
 
 // Whether an entry's fault is known to be detected.
 fn is_tested(state: State) -> bool
-    ensures { result ≡ is_tested (state_model state) }
+    ensures { result ≡ is_tested state }
 {
     match state {
         State::Fewest { .. } | State::Covered { .. } | State::Spent { cube: Some(_), .. } => true,
@@ -22,7 +20,7 @@ fn is_tested(state: State) -> bool
 
 // The line of each entry, and how many faults are known to be detected, of all.
 pub fn listing(heap: Global, folder: &Folder) -> Result<String, Refusal>
-    ensures { MatchResult result (λ t. string_bytes t ≡ listing (folder_model folder.now).circuit (folder_model folder.now).table) (λ e. e ≡ Memory) }
+    ensures { MatchResult result (λ t. string_bytes t ≡ listing folder.now.circuit folder.now.table) (λ e. e ≡ Memory) }
 {
     let circuit = folder.circuit();
     let entries = folder.entries();

@@ -25,13 +25,7 @@ impl fmt::Display for Reply {
             Reply::Kind { kind } => write!(f, "(kind {kind})\n"),
             Reply::Entered { number } => write!(f, "(entry {number})\n"),
             Reply::Listing { text } => f.write_str(text.as_str()),
-            Reply::Refused {
-                cause: Cause {
-                    layer,
-                    number,
-                    place,
-                },
-            } => write!(f, "(refused {layer} {number} {place})\n"),
+            Reply::Refused { cause } => write!(f, "(refused {cause})\n"),
         }
     }
 }

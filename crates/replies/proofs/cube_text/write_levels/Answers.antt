@@ -1,12 +1,9 @@
-use Rattle.std.proofs.Common.{ℕ, ◌++◌, is_ok, ap, ◌∙◌, arith}
+use Rattle.std.proofs.Common.{ℕ, ◌++◌, is_ok, ap, ◌∙◌}
 use lib.Utf8.{encode}
-use Rattle.std.proofs.Output.{writes_in_calls_nil, has_written_append, has_written_of_eq}
+use Rattle.std.proofs.Output.{has_written_append, has_written_of_eq}
 use Rattle.replies.specs.Texts.{levels}
 use Rattle.replies.proofs.Levels.{levels_more}
 use Rattle.replies.proofs.cube_text.write_levels.Goals as goal
-
-pub loop-input-init : goal.loop-input-init
-loop-input-init g c = λ plain. record { wrote = writes_in_calls_nil _ _; plain = plain }
 
 pub loop-input-preserved : goal.loop-input-preserved
 loop-input-preserved g c = λ plain.
@@ -17,7 +14,3 @@ loop-input-preserved g c = λ plain.
     has_written_of_eq g.W.Write.write_str_gives _ _ _ _
     (ap (λ (k : ℕ). levels d l 0 c.loop-input.input ++ encode k) c.letter.ensures ∙ levels_more d l c.loop-input.input)
     (has_written_append g.W.Write.write_str_gives _ _ _ _ _ before printed)
-
-pub returns : goal.returns
-returns g c = λ plain _.
-    has_written_of_eq g.W.Write.write_str_gives _ _ _ _ (ap (levels c.args.cube.driven c.args.cube.level 0) (omega arith)) (c.loop-input.invariant plain)

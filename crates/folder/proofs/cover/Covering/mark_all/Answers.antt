@@ -1,34 +1,37 @@
-use Rattle.std.proofs.Common.{◌≡◌, ◌+◌, cond, get_or, sym, ap, ◌∙◌, add-zero, arith}
-use Rattle.circuit.specs.Circuits.{circuit_model}
-use Rattle.faults.specs.Cubes.{cube_model}
-use Rattle.folder.proofs.Marking.{counted_le, mark_more, mark_end}
+use Rattle.std.proofs.Common.{◌≡◌, ◌<◌, ◌+◌, ◌-◌, ◌++◌, List, map, length, get_or, take, drop, set, sym, ap, ◌∙◌, arith, ℕ}
+use Rattle.std.proofs.lemmas.List.{length-map, length-take-le, get_or-append_right, get_or-drop}
+use Rattle.std.proofs.lemmas.List.Edits.{map_over_more}
+use Rattle.std.proofs.lemmas.List.Sums.{count_by_more_yes, count_by_more_no}
+use Rattle.folder.specs.Covering.{is_covered, marked}
 use Rattle.folder.proofs.cover.Covering.mark_all.Goals as goal
 use Rattle.folder.proofs.cover.Covering.mark_all.Goals.{then-mark, else-mark}
 
-pub overflow_add-count : goal.overflow_add-count
-overflow_add-count g c =
-    omega (
-      arith,
-      counted_le g.V.ValueKind.kind (circuit_model c.args.self.now.circuit.now) c.args.self.now.number (cube_model c.args.self.now.cube) c.args.entries.now
-          c.loop-entry.entry-index c.loop-entry.entries c.loop-entry.count (omega arith) c.loop-entry.invariant.0,
-    )
+-- what stands at a place that the loop has not come to
+untouched : {X : Type 0} (f : X → X) (xs ys : List X) (i : ℕ) (x : X) → i < length xs → ys ≡ map f (take i xs) ++ drop i xs → get_or xs i x ≡ get_or ys i x
+untouched f xs ys i x inside front =
+    sym (ap (λ zs. get_or zs i x) front
+    ∙ get_or-append_right (map f (take i xs)) (drop i xs) i i x (length-map (take i xs) f ∙ length-take-le i xs (omega arith)) (omega arith)
+    ∙ get_or-drop i xs (i - i) x ∙ ap (λ n. get_or xs n x) (omega arith))
 
 pub loop-entry-preserved : goal.loop-entry-preserved
-loop-entry-preserved g c = (
-  mark_more g.V.ValueKind.kind (circuit_model c.args.self.now.circuit.now) c.args.self.now.number (cube_model c.args.self.now.cube) c.args.entries.now
-      c.loop-entry.entry-index c.loop-entry.entries c.loop-entry.count c.if-mark.count c.mark.result (get_or c.loop-entry.entries c.loop-entry.entry-index c.entry-item.result) c.mark.new.entry
-      (omega arith) (ap (get_or c.loop-entry.entries c.loop-entry.entry-index) c.entry-item.is) c.mark.ensures.value c.mark.ensures.marks turned c.loop-entry.invariant.0,
-  λ e. c.mark.ensures.socket (c.loop-entry.invariant.1 e),
-)
-  where
-    turned : c.if-mark.count ≡ c.loop-entry.count + cond c.mark.result 1 0
-    turned = elim c.if-mark.branch [
-      | then-mark w ↦ w.count-is ∙ sym (ap (λ b. c.loop-entry.count + cond b 1 0) w.if-mark.true)
-      | else-mark w ↦ w.count-is ∙ sym (ap (λ b. c.loop-entry.count + cond b 1 0) w.if-mark.false ∙ add-zero c.loop-entry.count)
-    ]
-
-pub returns : goal.returns
-returns g c =
-    let m = mark_end g.V.ValueKind.kind (circuit_model c.args.self.now.circuit.now) c.args.self.now.number (cube_model c.args.self.now.cube) c.args.entries.now
-    c.loop-entry.entry-index c.loop-entry.entries c.loop-entry.count (omega arith) c.loop-entry.invariant.0 in
-    record { value = m.0; marks = m.1; socket = c.loop-entry.invariant.1 }
+loop-entry-preserved g c =
+    let K = g.V.ValueKind.kind in
+    let d = c.args.self.now.circuit.now in
+    let q = c.args.self.now.cube in
+    let before = c.args.entries.now in
+    let i = c.loop-entry.entry-index in
+    let x = c.entry-item.result in
+    let inside : i < length before = omega arith in
+    let at : is_covered K d q (get_or before i x) ≡ c.mark.result =
+    ap (is_covered K d q) (untouched (marked K d c.args.self.now.number q) before c.loop-entry.entries i x inside c.loop-entry.invariant.marks) ∙ sym c.mark.ensures.value in
+    record {
+      marks =
+          ap (set c.loop-entry.entries i) (c.mark.ensures.marks ∙ sym (ap (marked K d c.args.self.now.number q) c.entry-item.is))
+          ∙ map_over_more (marked K d c.args.self.now.number q) before c.loop-entry.entries i x inside c.loop-entry.invariant.marks c.entry-item.is;
+      counted = elim c.if-mark.branch [
+        | then-mark w ↦ w.count-is ∙ ap (λ (n : ℕ). n + 1) c.loop-entry.invariant.counted ∙ sym (count_by_more_yes (is_covered K d q) before i x inside (at ∙ w.if-mark.true))
+        | else-mark w ↦ w.count-is ∙ c.loop-entry.invariant.counted ∙ sym (count_by_more_no (is_covered K d q) before i x inside (at ∙ w.if-mark.false))
+      ];
+      few = elim c.if-mark.branch [ then-mark w ↦ omega (arith, w.count-is, c.loop-entry.invariant.few) | else-mark w ↦ omega (arith, w.count-is, c.loop-entry.invariant.few) ];
+      socket = λ e. c.mark.ensures.socket (c.loop-entry.invariant.socket e);
+    }

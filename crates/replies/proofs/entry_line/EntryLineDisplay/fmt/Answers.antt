@@ -1,10 +1,16 @@
-use Rattle.std.proofs.Common.{◌≡◌, ℕ, List, sym, ap, ◌∙◌}
-use Rattle.std.specs.Borrow.{Bor}
+use Rattle.std.proofs.Common.{◌≡◌, ℕ, Bool, true, false, List, ◌++◌, append_assoc, arith}
+use Rattle.std.proofs.lemmas.Fmt.{decimal_digit}
+use Rattle.std.specs.Prelude.{codes, decimal}
+use mir.Val.{bool_byte}
 use Rattle.std.proofs.Output.{has_written_of_eq}
 use Rattle.replies.specs.Lines.{level_text}
-use Rattle.replies.proofs.Rows.{fields_joined}
 use Rattle.replies.proofs.entry_line.EntryLineDisplay.fmt.Goals as goal
-use Rattle.replies.proofs.entry_line.EntryLineDisplay.fmt.Goals.{then-level, else-level}
+
+-- the parts of an entry's line, as the code joins them
+joined : (number name pin level state cube count : List ℕ)
+    → codes "(entry " ++ ((number ++ (codes " " ++ (name ++ (codes " " ++ (pin ++ (codes " " ++ (level ++ (codes " " ++ (state ++ (codes " " ++ cube)))))))))) ++ (codes " " ++ (count ++ codes ")\n")))
+    ≡ codes "(entry " ++ (number ++ (codes " " ++ (name ++ (codes " " ++ (pin ++ (codes " " ++ (level ++ (codes " " ++ (state ++ (codes " " ++ (cube ++ (codes " " ++ (count ++ codes ")\n")))))))))))))
+joined number name pin level state cube count = simp append_assoc
 
 pub returns-clause-writes : goal.returns-clause-writes
 returns-clause-writes g c = λ plain ok.
@@ -13,18 +19,17 @@ returns-clause-writes g c = λ plain ok.
       c.line_name.ensures,
       c.line.ensures,
       c.pin-pin.ensures,
-      level,
+      c.from-level.ensures,
+      digit c.level.result,
       c.level.ensures,
       c.state-state.ensures,
       c.cube.ensures,
       c.input_count.ensures.value,
       c.count-count.ensures,
       c.fault-fault.ensures,
-    ) (fields_joined _ _ _ _ _ _ _))
+    ) (joined _ _ _ _ _ _ _))
     (c.write.ensures.writes plain ok)
   where
-    level : c.if-level.level.now ≡ level_text c.level.result
-    level = elim c.if-level.branch [
-      | then-level w ↦ ap (λ (s : Bor (List ℕ)). s.now) w.level-is ∙ sym (ap level_text w.if-level.true)
-      | else-level w ↦ ap (λ (s : Bor (List ℕ)). s.now) w.level-is ∙ sym (ap level_text w.if-level.false)
-    ]
+    digit : (b : Bool) → decimal (bool_byte b) ≡ level_text b
+    digit false = decimal_digit 0 (omega arith)
+    digit true = decimal_digit 1 (omega arith)
