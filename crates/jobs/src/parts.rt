@@ -10,7 +10,7 @@ use crate::numbers::expect_number;
 use circuit::Circuit;
 use faults::StuckAt;
 use refusals::{CircuitRefusal, FormRefusal, Refusal};
-use words::{Lexer, Mark, PlacedWord, Token, expect_mark, expect_word};
+use words::{Lexer, Mark, PlacedWord, expect_mark, expect_word};
 
 // A job line that is being read: what is left of its text, the circuit whose lines it may name, and whether a kind was chosen
 // (which one it is changes nothing in how a line is read).
@@ -38,9 +38,10 @@ impl JobReader<'_> {
     fn head(&mut self) -> Result<Head, Refusal>
         ensures { Leads (at job_head self.old) result (λ h. at (after_head h) self.new) }
     {
-        let PlacedWord { bytes, place } = expect_word(self.lexer.next_token())?;
-        let head = Head::try_from(bytes).map_err(|_| FormRefusal::UnknownWord { place })?;
+        let word = expect_word(self.lexer.next_token())?;
+        let head: Head = word.named()?;
         if !head.is_in_turn(self.chosen) {
+            let place = word.place;
             return Err(FormRefusal::Misplaced { place }.into());
         }
         Ok(head)
@@ -50,8 +51,7 @@ impl JobReader<'_> {
     fn kind(&mut self) -> Result<Kind, Refusal>
         ensures { Leads (at kind_word self.old) result (λ k. at (line_close (asked.Kind k)) self.new) }
     {
-        let PlacedWord { bytes, place } = expect_word(self.lexer.next_token())?;
-        let kind = Kind::try_from(bytes).map_err(|_| FormRefusal::UnknownWord { place })?;
+        let kind = expect_word(self.lexer.next_token())?.named()?;
         Ok(kind)
     }
 
@@ -97,9 +97,6 @@ impl JobReader<'_> {
         ensures { (job : JobModel) → Leads (at (line_close job) self.old) result (λ next. Asked job next) }
     {
         expect_mark(self.lexer.next_token(), Mark::Closing)?;
-        match self.lexer.next_token() {
-            Token::TextEnd { place } => Ok(place),
-            end => Ok(expect_mark(end, Mark::LineEnd)? + 1),
-        }
+        self.lexer.line_end()
     }
 }

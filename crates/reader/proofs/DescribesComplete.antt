@@ -11,7 +11,8 @@ use Rattle.circuit.specs.Lawful.{each_after, unclaimed}
 use Rattle.reader.specs.Reading.{Pending, inputs_line, input_name, line_end, next_line, gate_name, operand, output_name, outputs_end}
 use Rattle.reader.specs.Reading.{Granted, Go, run, step, reading, empty, full, with_output, with_operand, made_gate, gate_made, operand_found, operator_found, output_found}
 use Rattle.reader.specs.Describes.{Mark, Operands, none, name_then, gate_then, GateLine, Source, Describes, OneCircuit}
-use Rattle.reader.specs.Describes.{names_then, operands_then, gate_line_then, gate_lines_then, words_of, rest_place}
+use Rattle.words.specs.Expected.{after_line}
+use Rattle.reader.specs.Describes.{names_then, operands_then, gate_line_then, gate_lines_then, words_of}
 use Rattle.reader.specs.Describes.{known, number_of, made, with_gate_line, with_gate_lines, inputs_alone, all_lines, stands_for}
 use Rattle.reader.specs.Describes.{operand_count, unlisted, GateLineRules, GateLinesRules, Rules}
 use Rattle.reader.proofs.DescribesPlaces.{Placed, placed_from, none_left, Leads, ◌then◌, stays, on_opening, on_closing, on_feed, on_word}
@@ -145,7 +146,7 @@ source_leads s rules =
     then stays {d = stands_for s} refl (ap (λ (os : List ℕ). record { inputs = c.inputs; gates = c.gates; outputs = os ++ lines }) no_outputs)
     then on_closing (λ n. cond-false _ _ _ (ne_eqb (length lines) 0 (omega (arith, output_count.0, length-map s.outputs (number_of c)))))
 
-ends : (c : Circuit) (end : Lexeme) (after : List Lexeme) (place : ℕ) → rest_place end ≡ Some place
+ends : (c : Circuit) (end : Lexeme) (after : List Lexeme) (place : ℕ) → after_line end ≡ Some place
     → run outputs_end c (end ∷ after) ≡ Granted c place
 ends c (LineEnd n) after place e = cc
 ends c (TextEnd n) after place e = cc

@@ -10,7 +10,8 @@ use Rattle.circuit.specs.Model.{Circuit, line_count}
 use Rattle.circuit.specs.Lawful.{each_after, unclaimed}
 use Rattle.reader.specs.Reading.{Due, Pending, inputs_line, inputs_head, input_name, line_end, next_line, next_head, gate_name, gate_begin, operator, operand, gate_line_close, output_name, outputs_end}
 use Rattle.reader.specs.Reading.{with_operand, with_name, made_gate}
-use Rattle.reader.specs.Describes.{Mark, opening, closing, word, line_feed, Operands, GateLine, names_then, operands_then, gate_lines_then, rest_place}
+use Rattle.words.specs.Expected.{after_line}
+use Rattle.reader.specs.Describes.{Mark, opening, closing, word, line_feed, Operands, GateLine, names_then, operands_then, gate_lines_then}
 use Rattle.reader.specs.Describes.{known, number_of, made, with_gate_lines, inputs_alone, operand_count, unlisted, GateLinesRules}
 use Rattle.reader.proofs.DescribesPlaces.{Placed}
 use Rattle.reader.proofs.DescribesLines.{with_operands, with_outputs, Right}
@@ -28,7 +29,7 @@ module _ (d : Circuit) (place : ℕ) where
     pub end : Lexeme
     pub after : List Lexeme
     pub whole : ts ≡ end ∷ after
-    pub ended : rest_place end ≡ Some place
+    pub ended : after_line end ≡ Some place
     pub circuit : d ≡ c
 
   pub record OutputsLeft (c : Circuit) (ts : List Lexeme) : Type 0 where

@@ -1,9 +1,10 @@
 -- Which circuit a text describes: the written form of a circuit, its words, the rules for it, and the circuit that it
 -- stands for.
-use Rattle.std.specs.Prelude.{◌≡◌, ℕ, suc, ◌+◌, ◌≤◌, max, Bool, true, false, not, ◌&&◌, List, [], ◌∷◌, ◌++◌, map, length, is_some, Some, None, codes, Option, nat_eq}
+use Rattle.std.specs.Prelude.{◌≡◌, ℕ, suc, ◌+◌, ◌≤◌, max, Bool, true, false, not, ◌&&◌, List, [], ◌∷◌, ◌++◌, map, length, is_some, Some, None, codes, nat_eq}
 use Rattle.std.specs.Option.{unwrap_or}
 use Rattle.words.specs.Lexemes.{Lexeme, lexemes}
 use Rattle.words.specs.Lexemes as lexeme
+use Rattle.words.specs.Expected.{after_line}
 use Rattle.std.specs.List.{list_all, list_any}
 use Rattle.words.specs.Spelling.{name_shape}
 use Rattle.circuit.specs.declared.op.Op.{Op}
@@ -76,15 +77,6 @@ outputs_line_then ws ms = opening ∷ (word (codes "outputs") ∷ names_then ws 
 -- the words of a source, but for the end of its last line
 abbrev pub words_of : Source → List Mark
 words_of s = inputs_line_then s.inputs (gate_lines_then s.gates (outputs_line_then s.outputs []))
-
--- The last line ends with a line feed, behind which the rest of the text begins, or with the text.
-abbrev pub rest_place : Lexeme → Option ℕ
-rest_place (lexeme.LineEnd n) = Some (n + 1)
-rest_place (lexeme.TextEnd n) = Some n
-rest_place (lexeme.Opening n) = None
-rest_place (lexeme.Closing n) = None
-rest_place (lexeme.Word bytes n) = None
-rest_place (lexeme.Forbidden n) = None
 
 -- The circuit that it stands for
 
@@ -206,7 +198,7 @@ pub record Describes (text : List ℕ) (c : Circuit) (place : ℕ) : Type 0 wher
   pub after : List Lexeme
   pub text_is : lexemes 0 text ≡ front ++ (end ∷ after)
   pub front_is : map unplaced front ≡ words_of source
-  pub ended : rest_place end ≡ Some place
+  pub ended : after_line end ≡ Some place
 
 -- Reading grants just the texts that describe a circuit, with that circuit and the place of the rest.
 abbrev pub ReadsWhatIsDescribed : Type 0

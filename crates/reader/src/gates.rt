@@ -50,8 +50,7 @@ impl Parser<'_> {
         ensures fewer { OnOk result (length (ahead self.new) ≤ length (ahead self.old)) }
     {
         let token = within_brackets(self.next(), allowed)?;
-        let PlacedWord { bytes, place } = expect_word(token)?;
-        let op = Op::try_from(bytes).map_err(|_| FormRefusal::UnknownWord { place })?;
+        let op = expect_word(token)?.named()?;
         Ok(op)
     }
 

@@ -201,14 +201,10 @@ impl Parser<'_> {
         }
     }
 
-    // The end of the outputs line, and of the circuit: the place where the rest of the text begins. A job line ends alike, but
-    // a function for both would have to require that the place after the token fits, which `next` says of it.
+    // The end of the outputs line, and of the circuit: the place where the rest of the text begins.
     pub fn outputs_end(&mut self) -> Result<usize, Refusal>
         ensures { Leads (at outputs_end self.old) result (λ place. Granted (so_far self.new) place) }
     {
-        match self.next() {
-            Token::TextEnd { place } => Ok(place),
-            token => Ok(expect_mark(token, Mark::LineEnd)? + 1),
-        }
+        self.lexer.line_end()
     }
 }
