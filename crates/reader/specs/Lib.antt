@@ -1,4 +1,5 @@
 pub mod Reading
 pub mod Describes
+pub mod Heads
 pub mod Parsing
 pub mod Promises
