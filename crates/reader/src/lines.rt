@@ -1,10 +1,10 @@
 // The lines of a circuit text, but for the inside of a gate.
 ghost use Rattle.std.specs.Prelude.{◌≡◌, ℕ, ◌<◌, ◌≤◌, true, false, List, [], length, MatchResult, OnOk};
 ghost use Rattle.refusals.specs.declared.cause.Refusal.TheVariants.{Circuit as CircuitCause};
-ghost use Rattle.refusals.specs.declared.layers.CircuitRefusal.TheVariants.{EndsEarly, NameTaken};
+ghost use Rattle.refusals.specs.declared.layers.CircuitRefusal.TheVariants.{EndsEarly};
 ghost use Rattle.words.specs.Lexemes.{TextEnd, lexeme, is_end};
 ghost use Rattle.circuit.specs.Tables.{name_bytes};
-ghost use Rattle.reader.specs.Reading.{Granted, inputs_line, inputs_head, input_name, line_end, next_line, next_head, gate_name, gate_begin, operator, gate_line_close, output_name, outputs_end, taken, word_step};
+ghost use Rattle.reader.specs.Reading.{Granted, inputs_line, inputs_head, input_name, line_end, next_line, next_head, gate_name, gate_begin, operator, gate_line_close, output_name, outputs_end, word_step};
 ghost use Rattle.reader.specs.Parsing.{ahead, so_far, at, resumed, Leads, Advances, after_head, listed};
 
 use crate::head::{Head, INPUTS, wrong_head};
@@ -87,16 +87,6 @@ impl<'a> Parser<'a> {
         self.listed_name(count)
     }
 
-    // The word, which may name no line yet.
-    fn new_name<'b>(&self, word: PlacedWord<'b>) -> Result<PlacedWord<'b>, CircuitRefusal>
-        ensures { MatchResult result (λ w. (w ≡ word.entry) × (taken (so_far self.now) w.bytes.now ≡ false)) (λ e. (taken (so_far self.now) word.entry.bytes.now ≡ true) × (e ≡ NameTaken word.entry.place)) }
-    {
-        match self.tables.line_named(word.bytes) {
-            None => Ok(word),
-            Some(_) => Err(CircuitRefusal::NameTaken { place: word.place }),
-        }
-    }
-
     // One name of an inputs line.
     fn input_name(&mut self, word: PlacedWord<'_>) -> Result<(), Refusal>
         ensures leads { Leads (resumed (word_step input_name (so_far self.old) word.entry.bytes.now word.entry.place) (ahead self.old)) result (λ _. at input_name self.new) }
@@ -172,11 +162,8 @@ impl<'a> Parser<'a> {
         ensures leads { Leads (resumed (word_step output_name (so_far self.old) word.entry.bytes.now word.entry.place) (ahead self.old)) result (λ _. at output_name self.new) }
         ensures same { ahead self.new ≡ ahead self.old }
     {
-        let PlacedWord { bytes, place } = word;
-        let line = self
-            .tables
-            .line_named(bytes)
-            .ok_or(CircuitRefusal::UnknownName { place })?;
+        let line = self.line_of(word)?;
+        let place = word.place;
         if self.tables.lists(line) {
             return Err(CircuitRefusal::NameTaken { place }.into());
         }
