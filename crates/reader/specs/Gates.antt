@@ -5,8 +5,8 @@ use Rattle.reader.specs.declared.parser.Parser.{Parser}
 use Rattle.reader.specs.declared.pending.PendingGate.{PendingGate}
 use Rattle.reader.specs.declared.pending.GatePart.{GatePart}
 use Rattle.reader.specs.declared.pending.GatePart.TheVariants.{Name, Opening, Closing}
-use Rattle.reader.specs.Reading.{Pending, operator, operand, operand_found, closing_step, Outcome}
-use Rattle.reader.specs.Parsing.{ahead, so_far, at, resumed}
+use Rattle.reader.specs.Reading.{Pending, operator, operand, operand_found, closing_step, Outcome, resumed}
+use Rattle.reader.specs.Parsing.{ahead, so_far, at}
 
 -- the pending gate of the definition that one of the code stands for
 abbrev pub pending_of : PendingGate → Pending

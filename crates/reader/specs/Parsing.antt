@@ -10,7 +10,7 @@ use Rattle.circuit.specs.Tables.{tables_model}
 use Rattle.reader.specs.declared.parser.Parser.{Parser}
 use Rattle.reader.specs.declared.head.Head.{Head}
 use Rattle.reader.specs.declared.head.Head.TheVariants as head
-use Rattle.reader.specs.Reading.{Pending, Due, gate_name, output_name, Step, Go, Stop, Outcome, Refused, run, word_step}
+use Rattle.reader.specs.Reading.{Pending, Due, gate_name, output_name, Outcome, Refused, run, word_step, resumed}
 
 -- the lexemes that a parser has yet to read, and the circuit that it has read
 abbrev pub ahead : Parser → List Lexeme
@@ -22,11 +22,6 @@ so_far p = tables_model p.tables
 -- what reading answers from here on, where that is due
 abbrev pub at : Due → Parser → Outcome
 at due p = run due (so_far p) (ahead p)
-
--- what reading answers after a step
-abbrev pub resumed : Step → List Lexeme → Outcome
-resumed (Go due c) ts = run due c ts
-resumed (Stop end) ts = end
 
 -- an error is the refusal of the definition, or want of memory
 abbrev pub Refuses : Outcome → Refusal → Type 0

@@ -5,8 +5,8 @@ ghost use Rattle.refusals.specs.declared.layers.TextRefusal.TheVariants.{Bracket
 ghost use Rattle.words.specs.Expected.{is_opening};
 ghost use Rattle.words.specs.Lexemes.{Opening, lexeme};
 ghost use Rattle.circuit.specs.Model.{line_count};
-ghost use Rattle.reader.specs.Reading.{Pending, operator, operand, gate_made, gate_line_close, closing_step};
-ghost use Rattle.reader.specs.Parsing.{ahead, so_far, at, resumed, Leads, InGates};
+ghost use Rattle.reader.specs.Reading.{Pending, operator, operand, gate_made, gate_line_close, closing_step, resumed};
+ghost use Rattle.reader.specs.Parsing.{ahead, so_far, at, Leads, InGates};
 ghost use Rattle.reader.specs.Gates.{pending_of, going_on, Opens};
 
 use crate::parser::Parser;

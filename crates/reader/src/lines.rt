@@ -4,8 +4,8 @@ ghost use Rattle.refusals.specs.declared.cause.Refusal.TheVariants.{Circuit as C
 ghost use Rattle.refusals.specs.declared.layers.CircuitRefusal.TheVariants.{EndsEarly};
 ghost use Rattle.words.specs.Lexemes.{TextEnd, lexeme, is_end};
 ghost use Rattle.circuit.specs.Tables.{name_bytes};
-ghost use Rattle.reader.specs.Reading.{Granted, inputs_line, inputs_head, input_name, line_end, next_line, next_head, gate_name, gate_begin, operator, gate_line_close, output_name, outputs_end, word_step};
-ghost use Rattle.reader.specs.Parsing.{ahead, so_far, at, resumed, Leads, Advances, after_head, listed};
+ghost use Rattle.reader.specs.Reading.{Granted, inputs_line, inputs_head, input_name, line_end, next_line, next_head, gate_name, gate_begin, operator, gate_line_close, output_name, outputs_end, word_step, resumed};
+ghost use Rattle.reader.specs.Parsing.{ahead, so_far, at, Leads, Advances, after_head, listed};
 
 use crate::head::{Head, INPUTS, wrong_head};
 use crate::parser::Parser;
