@@ -147,6 +147,7 @@ impl<'a> Parser<'a> {
     }
 
     // The closing bracket of a gate line: the line's gate, which is the last, gets the name.
+    #[tactic(auto, using(crate::proofs::Steps::stepped, crate::proofs::Steps::gate_renamed))]
     pub fn gate_line_close(&mut self, name: Name) -> Result<(), Refusal>
         ensures { Advances (gate_line_close (name_bytes name)) self.old result (λ _. line_end) self.new }
     {
