@@ -1,6 +1,6 @@
 -- What reading a job line answers. As in a circuit text, the words are judged one after the other, and the first bad one
 -- ends the line, by the smallest number that fits.
-use Rattle.std.specs.Prelude.{◌≡◌, ℕ, ◌+◌, Bool, cond, not, List, [], ◌∷◌, Some, None, codes, Option, Result, MatchResult}
+use Rattle.std.specs.Prelude.{◌≡◌, ℕ, ◌+◌, cond, List, [], ◌∷◌, Some, None, codes, Option, Result, MatchResult}
 use Rattle.std.specs.Str.{bytes_eq}
 use Rattle.refusals.specs.declared.cause.Refusal.{Refusal}
 use Rattle.refusals.specs.declared.cause.Refusal.TheVariants as refusal
@@ -25,10 +25,10 @@ pub data Due : Type 0 where
   line_begin : Due
   job_head : Due
   kind_word : Due
-  fault_name : Due
-  -- a pin's number, of a line; then a level's
-  fault_pin : ℕ → Due
-  fault_level : ℕ → ℕ → Due
+  -- the name of the line that a fault is on, under the kind that was chosen; the number of its pin; the number of its level
+  fault_name : Kind → Due
+  fault_pin : Kind → ℕ → Due
+  fault_level : Kind → ℕ → ℕ → Due
   -- the closing bracket, and the end of the line
   line_close : Job → Due
   line_end : Job → Due
@@ -79,40 +79,42 @@ NamesHead word r = MatchResult r (λ h. head_named word ≡ Some h) (λ _. head_
 abbrev pub NamesKind : List ℕ → Result Kind UnknownKind → Type 0
 NamesKind word r = MatchResult r (λ k. kind_named word ≡ Some k) (λ _. kind_named word ≡ None)
 
-abbrev pub after_head : Head → Due
-after_head head.Kind = kind_word
-after_head head.Fault = fault_name
-after_head head.List = line_close job.List
+-- What is due after a head, by the kind that was chosen; nothing where it may not come now. The kind comes first, and once.
+abbrev pub turn : Option Kind → Head → Option Due
+turn None head.Kind = Some kind_word
+turn None head.Fault = None
+turn None head.List = None
+turn (Some k) head.Kind = None
+turn (Some k) head.Fault = Some (fault_name k)
+turn (Some k) head.List = Some (line_close job.List)
 
--- the kind comes first, and once
-abbrev pub in_turn : Bool → Head → Bool
-in_turn chosen head.Kind = not chosen
-in_turn chosen head.Fault = chosen
-in_turn chosen head.List = chosen
+abbrev pub in_turn : ℕ → Option Due → Step
+in_turn n None = misplaced n
+in_turn n (Some due) = Go due
 
-abbrev pub head_found : Bool → ℕ → Option Head → Step
+abbrev pub head_found : Option Kind → ℕ → Option Head → Step
 head_found chosen n None = unknown_word n
-head_found chosen n (Some h) = cond (in_turn chosen h) (Go (after_head h)) (misplaced n)
+head_found chosen n (Some h) = in_turn n (turn chosen h)
 
 abbrev pub kind_found : ℕ → Option Kind → Step
 kind_found n None = unknown_word n
 kind_found n (Some k) = Go (line_close (job.Kind k))
 
-abbrev pub name_found : ℕ → Option ℕ → Step
-name_found n None = unknown_name n
-name_found n (Some line) = Go (fault_pin line)
+abbrev pub name_found : Kind → ℕ → Option ℕ → Step
+name_found k n None = unknown_name n
+name_found k n (Some line) = Go (fault_pin k line)
 
--- The names of the circuit's lines, and whether a kind was chosen, are given.
-module _ (names : List (Option (List ℕ))) (chosen : Bool) where
+-- The names of the circuit's lines, and the kind that was chosen, if one was, are given.
+module _ (names : List (Option (List ℕ))) (chosen : Option Kind) where
   -- a word: where a number is due it must be one, elsewhere it must have the shape of a name
   abbrev pub word_step : Due → List ℕ → ℕ → Step
   word_step line_begin word n = cond (name_shape word) (misplaced n) (malformed n)
   word_step job_head word n = cond (name_shape word) (head_found chosen n (head_named word)) (malformed n)
   word_step kind_word word n = cond (name_shape word) (kind_found n (kind_named word)) (malformed n)
-  word_step fault_name word n = cond (name_shape word) (name_found n (line_named names word)) (malformed n)
-  word_step (fault_pin line) word n = cond (number_shape word) (Go (fault_level line (number_value word))) (malformed n)
-  word_step (fault_level line pin) word n =
-      cond (number_shape word) (Go (line_close (job.Fault (record { line = line; pin = pin; level = number_value word })))) (malformed n)
+  word_step (fault_name k) word n = cond (name_shape word) (name_found k n (line_named names word)) (malformed n)
+  word_step (fault_pin k line) word n = cond (number_shape word) (Go (fault_level k line (number_value word))) (malformed n)
+  word_step (fault_level k line pin) word n =
+      cond (number_shape word) (Go (line_close (job.Fault k (record { line = line; pin = pin; level = number_value word })))) (malformed n)
   word_step (line_close job) word n = cond (name_shape word) (misplaced n) (malformed n)
   word_step (line_end job) word n = cond (name_shape word) (misplaced n) (malformed n)
 
@@ -120,9 +122,9 @@ module _ (names : List (Option (List ℕ))) (chosen : Bool) where
   opening_step line_begin n = Go job_head
   opening_step job_head n = misplaced n
   opening_step kind_word n = misplaced n
-  opening_step fault_name n = misplaced n
-  opening_step (fault_pin line) n = misplaced n
-  opening_step (fault_level line pin) n = misplaced n
+  opening_step (fault_name k) n = misplaced n
+  opening_step (fault_pin k line) n = misplaced n
+  opening_step (fault_level k line pin) n = misplaced n
   opening_step (line_close job) n = misplaced n
   opening_step (line_end job) n = misplaced n
 
@@ -130,9 +132,9 @@ module _ (names : List (Option (List ℕ))) (chosen : Bool) where
   closing_step line_begin n = misplaced n
   closing_step job_head n = misplaced n
   closing_step kind_word n = misplaced n
-  closing_step fault_name n = misplaced n
-  closing_step (fault_pin line) n = misplaced n
-  closing_step (fault_level line pin) n = misplaced n
+  closing_step (fault_name k) n = misplaced n
+  closing_step (fault_pin k line) n = misplaced n
+  closing_step (fault_level k line pin) n = misplaced n
   closing_step (line_close job) n = Go (line_end job)
   closing_step (line_end job) n = misplaced n
 
@@ -140,9 +142,9 @@ module _ (names : List (Option (List ℕ))) (chosen : Bool) where
   feed_step line_begin n = misplaced n
   feed_step job_head n = misplaced n
   feed_step kind_word n = misplaced n
-  feed_step fault_name n = misplaced n
-  feed_step (fault_pin line) n = misplaced n
-  feed_step (fault_level line pin) n = misplaced n
+  feed_step (fault_name k) n = misplaced n
+  feed_step (fault_pin k line) n = misplaced n
+  feed_step (fault_level k line pin) n = misplaced n
   feed_step (line_close job) n = misplaced n
   feed_step (line_end job) n = Stop (Asked job (n + 1))
 
@@ -150,9 +152,9 @@ module _ (names : List (Option (List ℕ))) (chosen : Bool) where
   end_step line_begin n = Stop NoMore
   end_step job_head n = misplaced n
   end_step kind_word n = misplaced n
-  end_step fault_name n = misplaced n
-  end_step (fault_pin line) n = misplaced n
-  end_step (fault_level line pin) n = misplaced n
+  end_step (fault_name k) n = misplaced n
+  end_step (fault_pin k line) n = misplaced n
+  end_step (fault_level k line pin) n = misplaced n
   end_step (line_close job) n = misplaced n
   end_step (line_end job) n = Stop (Asked job n)
 

@@ -19,8 +19,8 @@ pub enum Kind {
 pub enum Job {
     // choose the value kind
     Kind { kind: Kind },
-    // enter a stuck-at fault
-    Fault { fault: StuckAt },
+    // enter a stuck-at fault, under the kind that was chosen
+    Fault { kind: Kind, fault: StuckAt },
     // list the entries
     List,
 }

@@ -1,11 +1,12 @@
 // Numbers in job lines: 1 to 7 digits, with no needless zero in front.
-ghost use Rattle.std.specs.Prelude.{◌≡◌, true, false, MatchResult};
+ghost use Rattle.std.specs.Prelude.{◌≡◌, true, false, MatchOption, MatchResult};
 ghost use Rattle.words.specs.Bytes.{digit};
 ghost use Rattle.words.specs.Lexemes.{lexeme};
 ghost use Rattle.std.specs.List.{list_all};
 ghost use Rattle.jobs.specs.Numbers.{number_shape, number_value, is_number, not_number, NumberWord};
 
 use refusals::{Refusal, TextRefusal};
+use std::str;
 use words::{Token, unexpected};
 
 // The most digits of a number.
@@ -28,16 +29,15 @@ fn is_number(word: &[u8]) -> bool
     }
 }
 
-// The value of the digits. A fold leaves open that its closure may be called at each value so far; the loop's invariant says it.
-fn value_of(word: &[u8]) -> usize
-    requires { number_shape word.now ≡ true }
-    ensures { result ≡ number_value word.now }
+// The number that a word is, if it is written as it must be.
+#[tactic(auto, using(crate::proofs::Digits::number_is_text, crate::proofs::Digits::number_parsed))]
+fn number_of(word: &[u8]) -> Option<usize>
+    ensures { MatchOption result (number_shape word.now ≡ false) (λ v. (number_shape word.now ≡ true) × (v ≡ number_value word.now)) }
 {
-    let mut value = 0;
-    for byte in word {
-        value = value * 10 + usize::from(*byte - b'0');
+    if !is_number(word) {
+        return None;
     }
-    value
+    str::from_utf8(word).ok()?.parse().ok()
 }
 
 // The number that is due, by its value.
@@ -45,8 +45,9 @@ pub fn expect_number(token: Token<'_>) -> Result<usize, Refusal>
     ensures { MatchResult result (λ v. NumberWord (lexeme token.entry) v) (λ e. (is_number (lexeme token.entry) ≡ false) × (e ≡ not_number (lexeme token.entry))) }
 {
     match token {
-        Token::Word { bytes, .. } if is_number(bytes) => Ok(value_of(bytes)),
-        Token::Word { place, .. } => Err(TextRefusal::MalformedWord { place }.into()),
+        Token::Word { bytes, place } => {
+            Ok(number_of(bytes).ok_or(TextRefusal::MalformedWord { place })?)
+        }
         other => Err(unexpected(other)),
     }
 }

@@ -1,63 +1,38 @@
 // The parts of a job line.
 ghost use Rattle.std.specs.Prelude.{◌≡◌, ℕ};
-ghost use Rattle.jobs.specs.JobLines.{Asked, job_head, kind_word, fault_name, fault_pin, fault_level, line_close, in_turn, after_head};
+ghost use Rattle.jobs.specs.JobLines.{Asked, job_head, kind_word, fault_name, fault_pin, line_close};
 ghost use Rattle.jobs.specs.Reading.{Leads, at};
 ghost use Rattle.jobs.specs.declared.job.Job.{Job as JobModel};
-ghost use Rattle.jobs.specs.declared.job.Job.TheVariants as asked;
+ghost use Rattle.jobs.specs.declared.job.Kind.{Kind};
 
 use crate::job::{Head, Job, Kind};
 use crate::numbers::expect_number;
 use circuit::Circuit;
 use faults::StuckAt;
 use refusals::{CircuitRefusal, FormRefusal, Refusal};
-use words::{Lexer, Mark, PlacedWord, Token, expect_mark, expect_word};
+use words::{Lexer, Mark, PlacedWord, expect_mark, expect_word};
 
-// A job line that is being read: what is left of its text, the circuit whose lines it may name, and whether a kind was chosen
-// (which one it is changes nothing in how a line is read).
+// A job line that is being read: what is left of its text, the circuit whose lines it may name, and the kind that was chosen,
+// if one was.
 #[derive(Clone, Copy)]
 pub struct JobReader<'a> {
     pub lexer: Lexer<'a>,
     pub circuit: &'a Circuit,
-    pub chosen: bool,
-}
-
-impl Head {
-    // Whether such a job may come now: the kind comes first, and once.
-    fn is_in_turn(self, chosen: bool) -> bool
-        ensures { result ≡ in_turn chosen self }
-    {
-        match self {
-            Head::Kind => !chosen,
-            Head::Fault | Head::List => chosen,
-        }
-    }
+    pub chosen: Option<Kind>,
 }
 
 impl JobReader<'_> {
-    // The word that is due: a kind of job, in its turn.
-    fn head(&mut self) -> Result<Head, Refusal>
-        ensures { Leads (at job_head self.old) result (λ h. at (after_head h) self.new) }
+    // A kind job, after its head.
+    fn kind(&mut self) -> Result<Job, Refusal>
+        ensures { Leads (at kind_word self.old) result (λ j. at (line_close j) self.new) }
     {
-        let PlacedWord { bytes, place } = expect_word(self.lexer.next_token())?;
-        let head = Head::try_from(bytes).map_err(|_| FormRefusal::UnknownWord { place })?;
-        if !head.is_in_turn(self.chosen) {
-            return Err(FormRefusal::Misplaced { place }.into());
-        }
-        Ok(head)
-    }
-
-    // The value kind whose name is due.
-    fn kind(&mut self) -> Result<Kind, Refusal>
-        ensures { Leads (at kind_word self.old) result (λ k. at (line_close (asked.Kind k)) self.new) }
-    {
-        let PlacedWord { bytes, place } = expect_word(self.lexer.next_token())?;
-        let kind = Kind::try_from(bytes).map_err(|_| FormRefusal::UnknownWord { place })?;
-        Ok(kind)
+        let kind = expect_word(self.lexer.next_token())?.named()?;
+        Ok(Job::Kind { kind })
     }
 
     // The line of the name that is due.
     fn fault_line(&mut self) -> Result<usize, Refusal>
-        ensures { Leads (at fault_name self.old) result (λ line. at (fault_pin line) self.new) }
+        ensures { (k : Kind) → Leads (at (fault_name k) self.old) result (λ line. at (fault_pin k line) self.new) }
     {
         let PlacedWord { bytes, place } = expect_word(self.lexer.next_token())?;
         let line = self
@@ -68,27 +43,29 @@ impl JobReader<'_> {
     }
 
     // A fault job, after its head.
-    fn fault(&mut self) -> Result<Job, Refusal>
-        ensures { Leads (at fault_name self.old) result (λ j. at (line_close j) self.new) }
+    fn fault(&mut self, kind: Kind) -> Result<Job, Refusal>
+        ensures { Leads (at (fault_name kind) self.old) result (λ j. at (line_close j) self.new) }
     {
         let line = self.fault_line()?;
         let pin = expect_number(self.lexer.next_token())?;
         let level = expect_number(self.lexer.next_token())?;
         let fault = StuckAt { line, pin, level };
-        Ok(Job::Fault { fault })
+        Ok(Job::Fault { kind, fault })
     }
 
-    // The job, from its head to before its closing bracket.
+    // The job, from its head to before its closing bracket. The kind comes first, and once.
     pub fn job(&mut self) -> Result<Job, Refusal>
         ensures { Leads (at job_head self.old) result (λ j. at (line_close j) self.new) }
     {
-        match self.head()? {
-            Head::Kind => {
-                let kind = self.kind()?;
-                Ok(Job::Kind { kind })
+        let word = expect_word(self.lexer.next_token())?;
+        match (word.named()?, self.chosen) {
+            (Head::Kind, None) => self.kind(),
+            (Head::Fault, Some(kind)) => self.fault(kind),
+            (Head::List, Some(_)) => Ok(Job::List),
+            (Head::Kind, Some(_)) | (Head::Fault | Head::List, None) => {
+                let place = word.place;
+                Err(FormRefusal::Misplaced { place }.into())
             }
-            Head::Fault => self.fault(),
-            Head::List => Ok(Job::List),
         }
     }
 
@@ -97,9 +74,6 @@ impl JobReader<'_> {
         ensures { (job : JobModel) → Leads (at (line_close job) self.old) result (λ next. Asked job next) }
     {
         expect_mark(self.lexer.next_token(), Mark::Closing)?;
-        match self.lexer.next_token() {
-            Token::TextEnd { place } => Ok(place),
-            end => Ok(expect_mark(end, Mark::LineEnd)? + 1),
-        }
+        self.lexer.line_end()
     }
 }

@@ -6,19 +6,19 @@ ghost use Rattle.words.specs.Lexemes.{lexemes_from};
 ghost use Rattle.jobs.specs.JobLines.{line_begin, run};
 ghost use Rattle.jobs.specs.Reading.{job_answer};
 
-use crate::job::JobLine;
+use crate::job::{JobLine, Kind};
 use crate::parts::JobReader;
 use circuit::Circuit;
 use refusals::Refusal;
 use words::{Lexer, Mark, Token, expect_mark};
 
 // Reads the job line that begins at that place of the text: the job, and where the next line begins; nothing where only
-// spaces are left. `chosen` says whether a kind was chosen.
+// spaces are left. `chosen` is the kind that was chosen, if one was.
 pub fn read_job(
     text: &[u8],
     place: usize,
     circuit: &Circuit,
-    chosen: bool,
+    chosen: Option<Kind>,
 ) -> Result<Option<JobLine>, Refusal>
     ensures { result ≡ job_answer (run (names (circuit_model circuit.now)) chosen line_begin (lexemes_from text.now (min place (length text.now)))) }
 {

@@ -10,8 +10,9 @@ use Rattle.circuit.specs.Model.{Gate, Circuit, line_count, line_named}
 use Rattle.circuit.specs.Lawful.{each_after, unclaimed}
 use Rattle.reader.specs.Reading.{Pending, inputs_line, input_name, line_end, next_line, gate_name, operand, output_name, outputs_end}
 use Rattle.reader.specs.Reading.{Granted, Go, run, step, reading, empty, full, with_output, with_operand, made_gate, gate_made, operand_found, operator_found, output_found}
-use Rattle.reader.specs.Describes.{Mark, Operands, none, name_then, gate_then, GateLine, Source, Describes, OneCircuit}
-use Rattle.reader.specs.Describes.{names_then, operands_then, gate_line_then, gate_lines_then, words_of, rest_place}
+use Rattle.reader.specs.Describes.{Written, Operands, none, name_then, gate_then, GateLine, Source, Describes, OneCircuit}
+use Rattle.words.specs.Expected.{after_line}
+use Rattle.reader.specs.Describes.{names_then, operands_then, gate_line_then, gate_lines_then, words_of}
 use Rattle.reader.specs.Describes.{known, number_of, made, with_gate_line, with_gate_lines, inputs_alone, all_lines, stands_for}
 use Rattle.reader.specs.Describes.{operand_count, unlisted, GateLineRules, GateLinesRules, Rules}
 use Rattle.reader.proofs.DescribesPlaces.{Placed, placed_from, none_left, Leads, ◌then◌, stays, on_opening, on_closing, on_feed, on_word}
@@ -30,7 +31,7 @@ gate_closes : (name : List ℕ) (p : Pending) (pending : List Pending) (c : Circ
 gate_closes name p pending c n enough room = cond-false _ _ _ (le-ltb _ _ enough) ∙ cond-false _ _ _ (lt-leb _ _ room)
 
 -- Operands lead to the same gate with their lines, in the circuit with the gates among them.
-operands_lead : (a : Operands) (name : List ℕ) (gate : Pending) (pending : List Pending) (c : Circuit) (ms : List Mark)
+operands_lead : (a : Operands) (name : List ℕ) (gate : Pending) (pending : List Pending) (c : Circuit) (ms : List Written)
     → Right c (length pending) a → length gate.operands + operand_count a ≤ most_operands gate.op
     → line_count (made c a).circuit ≤ 512
     → Leads (operand name gate pending) c (operands_then a ms)
@@ -60,7 +61,7 @@ operands_lead (gate_then op inner more) name gate pending c ms right fits limit 
     then operands_lead more name (with_operand gate line) pending (behind c op inner) ms parts.after (omega (arith, length_push gate.operands line)) limit
     then stays (ap (λ (p : Pending). operand name p pending) (one_first gate line (made (behind c op inner) more).lines)) refl
 
-gate_line_leads : (g : GateLine) (c : Circuit) (ms : List Mark) → GateLineRules c g → line_count (with_gate_line c g) ≤ 512
+gate_line_leads : (g : GateLine) (c : Circuit) (ms : List Written) → GateLineRules c g → line_count (with_gate_line c g) ≤ 512
     → Leads next_line c (gate_line_then g ms) next_line (with_gate_line c g) ms
 gate_line_leads g c ms rules limit =
     let count = between_parts (fewest_operands g.op) (most_operands g.op) (operand_count g.operands) rules.own_count in
@@ -86,14 +87,14 @@ gate_line_leads g c ms rules limit =
     (last_named_push g.name within.circuit.gates (record { name = None; op = g.op; operands = within.lines })))
     then on_feed (λ n. refl)
 
-gate_lines_lead : (gs : List GateLine) (c : Circuit) (ms : List Mark) → GateLinesRules c gs → line_count (with_gate_lines c gs) ≤ 512
+gate_lines_lead : (gs : List GateLine) (c : Circuit) (ms : List Written) → GateLinesRules c gs → line_count (with_gate_lines c gs) ≤ 512
     → Leads next_line c (gate_lines_then gs ms) next_line (with_gate_lines c gs) ms
 gate_lines_lead [] c ms rules limit = stays refl refl
 gate_lines_lead (g ∷ gs) c ms rules limit =
     gate_line_leads g c _ rules.0 (omega (arith, all_lines_grow gs (with_gate_line c g)))
     then gate_lines_lead gs (with_gate_line c g) ms rules.1 limit
 
-inputs_lead : (ws before : List (List ℕ)) (ms : List Mark) → list_all name_shape ws ≡ true
+inputs_lead : (ws before : List (List ℕ)) (ms : List Written) → list_all name_shape ws ≡ true
     → each_after unclaimed (map Some before) (map Some ws) ≡ true → length before + length ws ≤ 64
     → Leads input_name (inputs_alone before) (names_then ws ms) input_name (inputs_alone (before ++ ws)) ms
 inputs_lead [] before ms shaped new few = stays refl (ap inputs_alone (sym (append-nil before)))
@@ -107,7 +108,7 @@ inputs_lead (w ∷ ws) before ms shaped new few =
     then inputs_lead ws (before ++ (w ∷ [])) ms shapes.1 later-new (omega (arith, length_push before w))
     then stays refl (ap inputs_alone (append_assoc before (w ∷ []) ws))
 
-outputs_lead : (ws : List (List ℕ)) (c : Circuit) (ms : List Mark) → list_all name_shape ws ≡ true → list_all (known c) ws ≡ true
+outputs_lead : (ws : List (List ℕ)) (c : Circuit) (ms : List Written) → list_all name_shape ws ≡ true → list_all (known c) ws ≡ true
     → each_after unlisted c.outputs (map (number_of c) ws) ≡ true → length c.outputs + length ws ≤ 64
     → Leads output_name c (names_then ws ms) output_name (with_outputs c ws) ms
 outputs_lead [] c ms shaped known_names new few =
@@ -145,7 +146,7 @@ source_leads s rules =
     then stays {d = stands_for s} refl (ap (λ (os : List ℕ). record { inputs = c.inputs; gates = c.gates; outputs = os ++ lines }) no_outputs)
     then on_closing (λ n. cond-false _ _ _ (ne_eqb (length lines) 0 (omega (arith, output_count.0, length-map s.outputs (number_of c)))))
 
-ends : (c : Circuit) (end : Lexeme) (after : List Lexeme) (place : ℕ) → rest_place end ≡ Some place
+ends : (c : Circuit) (end : Lexeme) (after : List Lexeme) (place : ℕ) → after_line end ≡ Some place
     → run outputs_end c (end ∷ after) ≡ Granted c place
 ends c (LineEnd n) after place e = cc
 ends c (TextEnd n) after place e = cc
@@ -158,7 +159,7 @@ pub complete : (text : List ℕ) (c : Circuit) (place : ℕ) → Describes text 
 complete text c place d =
     let s = d.source in
     let tail = d.end ∷ d.after in
-    let placed = subst (λ (ms : List Mark). Placed tail ms (d.front ++ tail)) d.front_is (placed_from d.front tail) in
+    let placed = subst (λ (ms : List Written). Placed tail ms (d.front ++ tail)) d.front_is (placed_from d.front tail) in
     let led = source_leads s d.rules tail (d.front ++ tail) placed in
     cond-false _ _ _ (le-ltb 65536 (length text) d.size)
     ∙ ap (run inputs_line empty) d.text_is

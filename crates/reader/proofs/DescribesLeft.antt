@@ -10,31 +10,32 @@ use Rattle.circuit.specs.Model.{Circuit, line_count}
 use Rattle.circuit.specs.Lawful.{each_after, unclaimed}
 use Rattle.reader.specs.Reading.{Due, Pending, inputs_line, inputs_head, input_name, line_end, next_line, next_head, gate_name, gate_begin, operator, operand, gate_line_close, output_name, outputs_end}
 use Rattle.reader.specs.Reading.{with_operand, with_name, made_gate}
-use Rattle.reader.specs.Describes.{Mark, opening, closing, word, line_feed, Operands, GateLine, names_then, operands_then, gate_lines_then, rest_place}
+use Rattle.words.specs.Expected.{after_line}
+use Rattle.reader.specs.Describes.{Written, opening, closing, word, line_feed, Operands, GateLine, names_then, operands_then, gate_lines_then}
 use Rattle.reader.specs.Describes.{known, number_of, made, with_gate_lines, inputs_alone, operand_count, unlisted, GateLinesRules}
 use Rattle.reader.proofs.DescribesPlaces.{Placed}
 use Rattle.reader.proofs.DescribesLines.{with_operands, with_outputs, Right}
 
 -- whatever words ms the lexemes left are, those from ts on are the words f ms
-abbrev pub Front : (List Mark → List Mark) → List Lexeme → List Lexeme → Type 0
-Front f ts left = (rest : List Lexeme) (ms : List Mark) → Placed rest ms left → Placed rest (f ms) ts
+abbrev pub Front : (List Written → List Written) → List Lexeme → List Lexeme → Type 0
+Front f ts left = (rest : List Lexeme) (ms : List Written) → Placed rest ms left → Placed rest (f ms) ts
 
 -- the words ms come first, and what is left is of the kind
-abbrev pub First : List Mark → (List Lexeme → Type 0) → List Lexeme → Type 0
-First ms Kind ts = (left : List Lexeme) × Front (λ (ns : List Mark). ms ++ ns) ts left × Kind left
+abbrev pub First : List Written → (List Lexeme → Type 0) → List Lexeme → Type 0
+First ms Kind ts = (left : List Lexeme) × Front (λ (ns : List Written). ms ++ ns) ts left × Kind left
 
 module _ (d : Circuit) (place : ℕ) where
   pub record Ended (c : Circuit) (ts : List Lexeme) : Type 0 where
     pub end : Lexeme
     pub after : List Lexeme
     pub whole : ts ≡ end ∷ after
-    pub ended : rest_place end ≡ Some place
+    pub ended : after_line end ≡ Some place
     pub circuit : d ≡ c
 
   pub record OutputsLeft (c : Circuit) (ts : List Lexeme) : Type 0 where
     pub outputs : List (List ℕ)
     pub left : List Lexeme
-    pub front : Front (λ (ms : List Mark). names_then outputs (closing ∷ ms)) ts left
+    pub front : Front (λ (ms : List Written). names_then outputs (closing ∷ ms)) ts left
     pub shaped : list_all name_shape outputs ≡ true
     pub known_names : list_all (known c) outputs ≡ true
     pub new : each_after unlisted c.outputs (map (number_of c) outputs) ≡ true
@@ -45,7 +46,7 @@ module _ (d : Circuit) (place : ℕ) where
   pub record LinesLeft (c : Circuit) (ts : List Lexeme) : Type 0 where
     pub gates : List GateLine
     pub left : List Lexeme
-    pub front : Front (λ (ms : List Mark). gate_lines_then gates (opening ∷ (word (codes "outputs") ∷ ms))) ts left
+    pub front : Front (λ (ms : List Written). gate_lines_then gates (opening ∷ (word (codes "outputs") ∷ ms))) ts left
     pub rules : GateLinesRules c gates
     pub limit : line_count c ≤ 512 → line_count (with_gate_lines c gates) ≤ 512
     pub outputs : OutputsLeft (with_gate_lines c gates) left
@@ -53,7 +54,7 @@ module _ (d : Circuit) (place : ℕ) where
   pub record InputsLeft (before : List (List ℕ)) (ts : List Lexeme) : Type 0 where
     pub inputs : List (List ℕ)
     pub left : List Lexeme
-    pub front : Front (λ (ms : List Mark). names_then inputs (closing ∷ (line_feed ∷ ms))) ts left
+    pub front : Front (λ (ms : List Written). names_then inputs (closing ∷ (line_feed ∷ ms))) ts left
     pub shaped : list_all name_shape inputs ≡ true
     pub new : each_after unclaimed (map Some before) (map Some inputs) ≡ true
     pub few : length inputs ≤ 64 - length before
@@ -64,7 +65,7 @@ module _ (d : Circuit) (place : ℕ) where
   pub record GateLeft (Outside : Circuit → ℕ → List Lexeme → Type 0) (depth : ℕ) (gate : Pending) (c : Circuit) (ts : List Lexeme) : Type 0 where
     pub operands : Operands
     pub left : List Lexeme
-    pub front : Front (λ (ms : List Mark). operands_then operands (closing ∷ ms)) ts left
+    pub front : Front (λ (ms : List Written). operands_then operands (closing ∷ ms)) ts left
     pub right : Right c depth operands
     pub enough : fewest_operands gate.op ≤ length gate.operands + operand_count operands
     pub few : operand_count operands ≤ most_operands gate.op - length gate.operands

@@ -1,5 +1,5 @@
 -- Lines of a circuit: how the gates of a line change their names and their number.
-use Rattle.std.proofs.Common.{◌≡◌, ℕ, suc, ◌-◌, ◌<◌, ◌≤◌, Bool, true, leb, List, [], ◌∷◌, ◌++◌, map, length, is_some, Some, None, Option, unwrap_or, sym, refl, ap, ◌∙◌, append_assoc, arith}
+use Rattle.std.proofs.Common.{◌≡◌, ℕ, suc, ◌-◌, ◌<◌, ◌≤◌, Bool, true, leb, List, [], ◌∷◌, ◌++◌, map, length, is_some, Some, None, Option, unwrap_or, true≢false, sym, refl, ap, ◌∙◌, append_assoc, arith}
 use mathlib.Core.Path.{fun_ext}
 use Rattle.std.proofs.lemmas.List.{length_push}
 use Rattle.std.proofs.lemmas.Bool.{and_parts, and_from, leb-true, le-leb}
@@ -40,7 +40,7 @@ op_known Buf = refl
 
 pub number_known : (o : Option ℕ) → is_some o ≡ true → o ≡ Some (unwrap_or o 0)
 number_known (Some line) e = refl
-number_known None e = let z : ◌≡◌ {A = ℕ} 0 1 = cc in absurd (omega arith)
+number_known None e = absurd (true≢false (sym e))
 
 -- the circuit behind a gate that is an operand of another
 abbrev pub behind : Circuit → Op → Operands → Circuit

@@ -1,20 +1,21 @@
 -- Words at whatever places, and how reading goes on over them.
-use Rattle.std.proofs.Common.{◌≡◌, ℕ, true, List, [], ◌∷◌, ◌++◌, map, refl, ap, ◌∙◌}
+use Rattle.std.proofs.Common.{◌≡◌, ℕ, true, List, [], ◌∷◌, ◌++◌, map, refl, ap, ◌∙◌, arith}
 use Rattle.std.proofs.lemmas.Bool.{cond-true}
 use Rattle.words.specs.Lexemes.{Lexeme, Opening, Closing, Word, LineEnd, TextEnd, Forbidden}
 use Rattle.words.specs.Spelling.{name_shape}
 use Rattle.circuit.specs.Model.{Circuit}
-use Rattle.reader.specs.Reading.{Due, Outcome, Step, Go, Stop, step, run, word_step}
-use Rattle.reader.specs.Describes.{Mark, opening, closing, word, line_feed, other, unplaced}
+use Rattle.refusals.specs.declared.cause.Refusal.{Refusal}
+use Rattle.reader.specs.Reading.{Due, Outcome, Granted, Refused, Step, Go, Stop, step, run, word_step, resumed}
+use Rattle.reader.specs.Describes.{Written, opening, closing, word, line_feed, other, unplaced}
 
--- the lexemes are the marks, at whatever places, and then the rest
-pub data Placed (rest : List Lexeme) : List Mark → List Lexeme → Type 0 where
+-- the lexemes are the written words, at whatever places, and then the rest
+pub data Placed (rest : List Lexeme) : List Written → List Lexeme → Type 0 where
   placed_none : Placed rest [] rest
-  placed_opening : {ms : List Mark} {ts : List Lexeme} (n : ℕ) → Placed rest ms ts → Placed rest (opening ∷ ms) (Opening n ∷ ts)
-  placed_closing : {ms : List Mark} {ts : List Lexeme} (n : ℕ) → Placed rest ms ts → Placed rest (closing ∷ ms) (Closing n ∷ ts)
-  placed_word : {ms : List Mark} {ts : List Lexeme} (w : List ℕ) (n : ℕ) → Placed rest ms ts → Placed rest (word w ∷ ms) (Word w n ∷ ts)
-  placed_feed : {ms : List Mark} {ts : List Lexeme} (n : ℕ) → Placed rest ms ts → Placed rest (line_feed ∷ ms) (LineEnd n ∷ ts)
-  placed_other : {ms : List Mark} {ts : List Lexeme} (t : Lexeme) → unplaced t ≡ other → Placed rest ms ts → Placed rest (other ∷ ms) (t ∷ ts)
+  placed_opening : {ms : List Written} {ts : List Lexeme} (n : ℕ) → Placed rest ms ts → Placed rest (opening ∷ ms) (Opening n ∷ ts)
+  placed_closing : {ms : List Written} {ts : List Lexeme} (n : ℕ) → Placed rest ms ts → Placed rest (closing ∷ ms) (Closing n ∷ ts)
+  placed_word : {ms : List Written} {ts : List Lexeme} (w : List ℕ) (n : ℕ) → Placed rest ms ts → Placed rest (word w ∷ ms) (Word w n ∷ ts)
+  placed_feed : {ms : List Written} {ts : List Lexeme} (n : ℕ) → Placed rest ms ts → Placed rest (line_feed ∷ ms) (LineEnd n ∷ ts)
+  placed_other : {ms : List Written} {ts : List Lexeme} (t : Lexeme) → unplaced t ≡ other → Placed rest ms ts → Placed rest (other ∷ ms) (t ∷ ts)
 
 pub placed_from : (front rest : List Lexeme) → Placed rest (map unplaced front) (front ++ rest)
 placed_from [] rest = placed_none
@@ -28,58 +29,58 @@ placed_from (Forbidden n ∷ ts) rest = placed_other (Forbidden n) refl (placed_
 pub none_left : {rest ts : List Lexeme} → Placed rest [] ts → ts ≡ rest
 none_left placed_none = refl
 
--- lexemes that have the marks, before the rest
-pub record Fronted (rest : List Lexeme) (ms : List Mark) (ts : List Lexeme) : Type 0 where
+-- lexemes that are the written words, before the rest
+pub record Fronted (rest : List Lexeme) (ms : List Written) (ts : List Lexeme) : Type 0 where
   pub front : List Lexeme
   pub whole : ts ≡ front ++ rest
-  pub marks : map unplaced front ≡ ms
+  pub words : map unplaced front ≡ ms
 
-one_more : {rest : List Lexeme} {ms : List Mark} {ts : List Lexeme} (m : Mark) (t : Lexeme) → unplaced t ≡ m → Fronted rest ms ts → Fronted rest (m ∷ ms) (t ∷ ts)
-one_more m t e f = record { front = t ∷ f.front; whole = ap (λ (ts : List Lexeme). t ∷ ts) f.whole; marks = let g = f.marks in cc }
+one_more : {rest : List Lexeme} {ms : List Written} {ts : List Lexeme} (m : Written) (t : Lexeme) → unplaced t ≡ m → Fronted rest ms ts → Fronted rest (m ∷ ms) (t ∷ ts)
+one_more m t e f = record { front = t ∷ f.front; whole = ap (λ (ts : List Lexeme). t ∷ ts) f.whole; words = let g = f.words in cc }
 
-pub front_of : {rest : List Lexeme} {ms : List Mark} {ts : List Lexeme} → Placed rest ms ts → Fronted rest ms ts
-front_of placed_none = record { front = []; whole = refl; marks = refl }
+pub front_of : {rest : List Lexeme} {ms : List Written} {ts : List Lexeme} → Placed rest ms ts → Fronted rest ms ts
+front_of placed_none = record { front = []; whole = refl; words = refl }
 front_of (placed_opening n p) = one_more opening (Opening n) refl (front_of p)
 front_of (placed_closing n p) = one_more closing (Closing n) refl (front_of p)
 front_of (placed_word w n p) = one_more (word w) (Word w n) refl (front_of p)
 front_of (placed_feed n p) = one_more line_feed (LineEnd n) refl (front_of p)
 front_of (placed_other t e p) = one_more other t e (front_of p)
 
--- how reading goes on after a step
-abbrev pub lead : List Lexeme → Step → Outcome
-lead ts (Go due c) = run due c ts
-lead ts (Stop end) = end
+-- a refusal is no grant
+pub refused_not_granted : {r : Refusal} {c : Circuit} {place : ℕ} → Refused r ≡ Granted c place → ⊥
+refused_not_granted e = let z : ◌≡◌ {A = ℕ} 0 1 = cc in omega arith
 
-pub run_step : (due : Due) (c : Circuit) (t : Lexeme) (ts : List Lexeme) → run due c (t ∷ ts) ≡ lead ts (step due c t)
+-- one lexeme is one step
+pub run_step : (due : Due) (c : Circuit) (t : Lexeme) (ts : List Lexeme) → run due c (t ∷ ts) ≡ resumed (step due c t) ts
 run_step due c t ts = goes_on (step due c t)
   where
-    goes_on : (s : Step) → elim s as (λ (x : Step). Outcome) [ Go next d ↦ run next d ts | Stop end ↦ end ] ≡ lead ts s
+    goes_on : (s : Step) → elim s as (λ (x : Step). Outcome) [ Go next d ↦ run next d ts | Stop end ↦ end ] ≡ resumed s ts
     goes_on (Go next d) = refl
     goes_on (Stop end) = refl
 
 -- the lexemes of ms, at whatever places, lead from one state of reading to another, in which those of ns are left
-pub record Led (rest : List Lexeme) (due : Due) (c : Circuit) (ts : List Lexeme) (next : Due) (d : Circuit) (ns : List Mark) : Type 0 where
+pub record Led (rest : List Lexeme) (due : Due) (c : Circuit) (ts : List Lexeme) (next : Due) (d : Circuit) (ns : List Written) : Type 0 where
   pub left : List Lexeme
   pub placed : Placed rest ns left
   pub same : run due c ts ≡ run next d left
 
-abbrev pub Leads : Due → Circuit → List Mark → Due → Circuit → List Mark → Type 0
+abbrev pub Leads : Due → Circuit → List Written → Due → Circuit → List Written → Type 0
 Leads due c ms next d ns = (rest ts : List Lexeme) → Placed rest ms ts → Led rest due c ts next d ns
 
 infixr 20 ◌then◌
-pub ◌then◌ : {due next last : Due} {c d e : Circuit} {ms ns os : List Mark}
+pub ◌then◌ : {due next last : Due} {c d e : Circuit} {ms ns os : List Written}
     → Leads due c ms next d ns → Leads next d ns last e os → Leads due c ms last e os
 ◌then◌ f g rest ts p =
     let a = f rest ts p in
     let b = g rest a.left a.placed in
     record { left = b.left; placed = b.placed; same = a.same ∙ b.same }
 
-module _ {due next : Due} {c d : Circuit} {ms : List Mark} where
+module _ {due next : Due} {c d : Circuit} {ms : List Written} where
   pub stays : due ≡ next → c ≡ d → Leads due c ms next d ms
   stays e f rest ts p = record { left = ts; placed = p; same = cc }
 
   on : (rest : List Lexeme) (t : Lexeme) (ts : List Lexeme) → step due c t ≡ Go next d → Placed rest ms ts → Led rest due c (t ∷ ts) next d ms
-  on rest t ts e p = record { left = ts; placed = p; same = run_step due c t ts ∙ ap (lead ts) e }
+  on rest t ts e p = record { left = ts; placed = p; same = run_step due c t ts ∙ ap (λ (s : Step). resumed s ts) e }
 
   pub on_opening : ((n : ℕ) → step due c (Opening n) ≡ Go next d) → Leads due c (opening ∷ ms) next d ms
   on_opening e rest _ (placed_opening {ts} n p) = on rest (Opening n) ts (e n) p

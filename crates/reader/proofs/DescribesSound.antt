@@ -14,11 +14,11 @@ use Rattle.circuit.specs.Ops.{op_named, fewest_operands, most_operands, op_word}
 use Rattle.circuit.specs.Model.{Gate, Circuit, line_count, names, line_named}
 use Rattle.circuit.specs.Lawful.{each_after, unclaimed}
 use Rattle.reader.specs.Reading.{Due, Pending, inputs_line, inputs_head, input_name, line_end, next_line, next_head, gate_name, gate_begin, operator, operand, gate_line_close, output_name, outputs_end}
-use Rattle.reader.specs.Reading.{Outcome, Granted, Refused, Step, Stop, step, run, reading, empty, open_brackets, taken, full, too_few, is_head}
+use Rattle.reader.specs.Reading.{Outcome, Granted, Refused, Step, Stop, step, run, reading, empty, open_brackets, taken, full, too_few, is_head, resumed}
 use Rattle.reader.specs.Reading.{with_input, with_output, with_operand, with_name, made_gate, gate_made, operand_found, operator_found, output_found, word_step, opening_step, closing_step, feed_step, end_step}
 use Rattle.reader.specs.Describes.{opening, word, none, name_then, gate_then, GateLine, GateLineRules, Source, Describes}
 use Rattle.reader.specs.Describes.{known, number_of, made, with_gate_line, inputs_alone, all_lines, operand_count, unlisted}
-use Rattle.reader.proofs.DescribesPlaces.{Placed, placed_none, placed_opening, placed_closing, placed_word, placed_feed, front_of, lead, run_step}
+use Rattle.reader.proofs.DescribesPlaces.{Placed, placed_none, placed_opening, placed_closing, placed_word, placed_feed, front_of, refused_not_granted, run_step}
 use Rattle.reader.proofs.DescribesLines.{one_first, behind, between_from, line_adds, same_outputs_all, right_name, right_gate}
 use Rattle.reader.proofs.DescribesLeft.{First, Ended, OutputsLeft, LinesLeft, InputsLeft, GateLeft, OutsideLeft, OperandLeft, OperatorLeft, NameLeft, Left}
 use Rattle.reader.proofs.Rules.{last_named_push}
@@ -40,20 +40,20 @@ word_of_op w op =
 module _ (d : Circuit) (place : ℕ) where
   -- Reading that ends with a circuit takes no step that refuses.
   dead : {X : Type 0} {r : Refusal} → Refused r ≡ Granted d place → X
-  dead e = let z : ◌≡◌ {A = ℕ} 0 1 = cc in absurd (omega arith)
+  dead e = absurd (refused_not_granted e)
 
-  avoids : (b : Bool) (r : Refusal) (s : Step) (ts : List Lexeme) → lead ts (cond b (Stop (Refused r)) s) ≡ Granted d place
-      → (b ≡ false) × (lead ts s ≡ Granted d place)
+  avoids : (b : Bool) (r : Refusal) (s : Step) (ts : List Lexeme) → resumed (cond b (Stop (Refused r)) s) ts ≡ Granted d place
+      → (b ≡ false) × (resumed s ts ≡ Granted d place)
   avoids true r s ts e = dead e
   avoids false r s ts e = (refl, e)
 
-  meets : (b : Bool) (s : Step) (r : Refusal) (ts : List Lexeme) → lead ts (cond b s (Stop (Refused r))) ≡ Granted d place
-      → (b ≡ true) × (lead ts s ≡ Granted d place)
+  meets : (b : Bool) (s : Step) (r : Refusal) (ts : List Lexeme) → resumed (cond b s (Stop (Refused r))) ts ≡ Granted d place
+      → (b ≡ true) × (resumed s ts ≡ Granted d place)
   meets true s r ts e = (refl, e)
   meets false s r ts e = dead e
 
-  splits : (b : Bool) (s t : Step) (ts : List Lexeme) → lead ts (cond b s t) ≡ Granted d place
-      → ((b ≡ true) × (lead ts s ≡ Granted d place)) ⊎ ((b ≡ false) × (lead ts t ≡ Granted d place))
+  splits : (b : Bool) (s t : Step) (ts : List Lexeme) → resumed (cond b s t) ts ≡ Granted d place
+      → ((b ≡ true) × (resumed s ts ≡ Granted d place)) ⊎ ((b ≡ false) × (resumed t ts ≡ Granted d place))
   splits true s t ts e = inl (refl, e)
   splits false s t ts e = inr (refl, e)
 
@@ -64,7 +64,7 @@ module _ (d : Circuit) (place : ℕ) where
   -- Inputs
 
   module _ (before : List (List ℕ)) (n : ℕ) (ts : List Lexeme) (later : Later ts) where
-    input_more : (w : List ℕ) → name_shape w ≡ true → lead ts (word_step input_name (inputs_alone before) w n) ≡ Granted d place
+    input_more : (w : List ℕ) → name_shape w ≡ true → resumed (word_step input_name (inputs_alone before) w n) ts ≡ Granted d place
         → InputsLeft d place before (Word w n ∷ ts)
     input_more w shape e =
         let Names = List (Option (List ℕ)) in
@@ -84,7 +84,7 @@ module _ (d : Circuit) (place : ℕ) where
           lines = subst (λ (ws : List (List ℕ)). LinesLeft d place (inputs_alone ws) more.left) (append_assoc before (w ∷ []) more.inputs) more.lines;
         }
 
-    inputs_close : lead ts (closing_step input_name (inputs_alone before) n) ≡ Granted d place → InputsLeft d place before (Closing n ∷ ts)
+    inputs_close : resumed (closing_step input_name (inputs_alone before) n) ts ≡ Granted d place → InputsLeft d place before (Closing n ∷ ts)
     inputs_close e =
         let any = avoids (eqb (length before) 0) _ _ ts e in
         let more = later line_end (inputs_alone before) any.1 in
@@ -106,7 +106,7 @@ module _ (d : Circuit) (place : ℕ) where
     listing os = record { inputs = c.inputs; gates = c.gates; outputs = os }
 
     output_more : (w : List ℕ) → name_shape w ≡ true → (found : Option ℕ) → line_named (names c) w ≡ found
-        → lead ts (output_found c n found) ≡ Granted d place → OutputsLeft d place c (Word w n ∷ ts)
+        → resumed (output_found c n found) ts ≡ Granted d place → OutputsLeft d place c (Word w n ∷ ts)
     output_more w shape None is_found e = dead e
     output_more w shape (Some line) is_found e =
         let new = avoids (list_any (eqb line) c.outputs) _ _ ts e in
@@ -129,7 +129,7 @@ module _ (d : Circuit) (place : ℕ) where
           ended = subst (λ (os : List ℕ). Ended d place (listing os) more.left) listed more.ended;
         }
 
-    outputs_close : lead ts (closing_step output_name c n) ≡ Granted d place → OutputsLeft d place c (Closing n ∷ ts)
+    outputs_close : resumed (closing_step output_name c n) ts ≡ Granted d place → OutputsLeft d place c (Closing n ∷ ts)
     outputs_close e =
         let any = avoids (eqb (length c.outputs) 0) _ _ ts e in
         record {
@@ -193,7 +193,7 @@ module _ (d : Circuit) (place : ℕ) where
         }
 
   gate_close : (name : List ℕ) (gate : Pending) (pending : List Pending) (c : Circuit) (n : ℕ) (ts : List Lexeme) → Later ts
-      → lead ts (closing_step (operand name gate pending) c n) ≡ Granted d place → OperandLeft d place name gate pending c (Closing n ∷ ts)
+      → resumed (closing_step (operand name gate pending) c n) ts ≡ Granted d place → OperandLeft d place name gate pending c (Closing n ∷ ts)
   gate_close name gate pending c n ts later e =
       let enough = avoids (too_few gate) _ _ ts e in
       let room = avoids (leb 512 (line_count c)) _ _ ts enough.1 in
@@ -210,7 +210,7 @@ module _ (d : Circuit) (place : ℕ) where
             (sym (append-nil gate.operands)) (outside pending room.1);
       }
     where
-      outside : (around : List Pending) → lead ts (gate_made (made_gate c gate) name (line_count c) around) ≡ Granted d place
+      outside : (around : List Pending) → resumed (gate_made (made_gate c gate) name (line_count c) around) ts ≡ Granted d place
           → OutsideLeft d place name around (made_gate c gate) (line_count c) ts
       outside [] f = later (gate_line_close name) (made_gate c gate) f
       outside (outer ∷ around) f = later (operand name (with_operand outer (line_count c)) around) (made_gate c gate) f
@@ -268,17 +268,17 @@ module _ (d : Circuit) (place : ℕ) where
       (ts, (λ rest ms p. subst (λ (u : List ℕ). Placed rest (word u ∷ ms) (Word w n ∷ ts)) same (placed_word w n p)), kind)
 
   -- a head that is the one due, or another way to go on
-  the_head : {X : Type 0} (w v : List ℕ) (s t : Step) (ts : List Lexeme) → lead ts (cond (bytes_eq w v) s t) ≡ Granted d place
-      → (w ≡ v → lead ts s ≡ Granted d place → X) → (lead ts t ≡ Granted d place → X) → X
+  the_head : {X : Type 0} (w v : List ℕ) (s t : Step) (ts : List Lexeme) → resumed (cond (bytes_eq w v) s t) ts ≡ Granted d place
+      → (w ≡ v → resumed s ts ≡ Granted d place → X) → (resumed t ts ≡ Granted d place → X) → X
   the_head w v s t ts e this other =
       ⊎_elim (λ same. this ((bytes_eq-Decides w v).0 same.0) same.1) (λ differs. other differs.1) (splits (bytes_eq w v) s t ts e)
 
-  no_head : {X : Type 0} (b : Bool) (r q : Refusal) (ts : List Lexeme) → lead ts (cond b (Stop (Refused r)) (Stop (Refused q))) ≡ Granted d place → X
+  no_head : {X : Type 0} (b : Bool) (r q : Refusal) (ts : List Lexeme) → resumed (cond b (Stop (Refused r)) (Stop (Refused q))) ts ≡ Granted d place → X
   no_head b r q ts e = dead (avoids b r (Stop (Refused q)) ts e).1
 
   operand_named : (name : List ℕ) (gate : Pending) (pending : List Pending) (c : Circuit) (w : List ℕ) (n : ℕ) (ts : List Lexeme)
       → Later ts → name_shape w ≡ true → full gate ≡ false → (found : Option ℕ) → line_named (names c) w ≡ found
-      → lead ts (operand_found c name gate pending n found) ≡ Granted d place → OperandLeft d place name gate pending c (Word w n ∷ ts)
+      → resumed (operand_found c name gate pending n found) ts ≡ Granted d place → OperandLeft d place name gate pending c (Word w n ∷ ts)
   operand_named name gate pending c w n ts later shape unfull None is_found e = dead e
   operand_named name gate pending c w n ts later shape unfull (Some line) is_found e =
       name_more (OutsideLeft d place name pending) (length pending) gate c unfull n ts w shape (ap is_some is_found)
@@ -287,19 +287,19 @@ module _ (d : Circuit) (place : ℕ) where
 
   operator_named : (name : List ℕ) (pending : List Pending) (c : Circuit) (w : List ℕ) (n : ℕ) (ts : List Lexeme)
       → Later ts → (found : Option Op) → op_named w ≡ found
-      → lead ts (operator_found c name pending n found) ≡ Granted d place → OperatorLeft d place name pending c (Word w n ∷ ts)
+      → resumed (operator_found c name pending n found) ts ≡ Granted d place → OperatorLeft d place name pending c (Word w n ∷ ts)
   operator_named name pending c w n ts later None is_found e = dead e
   operator_named name pending c w n ts later (Some op) is_found e =
       (op, the_word w (op_word op) n ts (word_of_op w op is_found) (later (operand name (record { op = op; operands = [] }) pending) c e))
 
   word_sound : (due : Due) (c : Circuit) (w : List ℕ) (n : ℕ) (ts : List Lexeme) → Later ts → name_shape w ≡ true
-      → lead ts (word_step due c w n) ≡ Granted d place → Left d place due c (Word w n ∷ ts)
+      → resumed (word_step due c w n) ts ≡ Granted d place → Left d place due c (Word w n ∷ ts)
   word_sound inputs_head c w n ts later shape e = λ before alone.
       the_head w (codes "inputs") _ _ ts e
       (λ same f. the_word w (codes "inputs") n ts same (later input_name c f before alone))
       (λ f. no_head (is_head w) _ _ ts f)
   word_sound input_name c w n ts later shape e = λ before alone.
-      input_more before n ts later w shape (subst (λ (b : Circuit). lead ts (word_step input_name b w n) ≡ Granted d place) alone e)
+      input_more before n ts later w shape (subst (λ (b : Circuit). resumed (word_step input_name b w n) ts ≡ Granted d place) alone e)
   word_sound next_head c w n ts later shape e =
       the_head w (codes "gate") _ _ ts e
       (λ same f. inl (the_word w (codes "gate") n ts same (later gate_name c f)))
@@ -323,7 +323,7 @@ module _ (d : Circuit) (place : ℕ) where
   word_sound outputs_end c w n ts later shape e = dead e
 
   opening_sound : (due : Due) (c : Circuit) (n : ℕ) (ts : List Lexeme) → Later ts → open_brackets due < 8
-      → lead ts (opening_step due c n) ≡ Granted d place → Left d place due c (Opening n ∷ ts)
+      → resumed (opening_step due c n) ts ≡ Granted d place → Left d place due c (Opening n ∷ ts)
   opening_sound inputs_line c n ts later shallow e = λ before alone.
       let more = later inputs_head c e before alone in
       (more.0, (λ rest ms p. placed_opening n (more.1 rest ms p)), more.2)
@@ -344,9 +344,9 @@ module _ (d : Circuit) (place : ℕ) where
   opening_sound outputs_end c n ts later shallow e = dead e
 
   closing_sound : (due : Due) (c : Circuit) (n : ℕ) (ts : List Lexeme) → Later ts
-      → lead ts (closing_step due c n) ≡ Granted d place → Left d place due c (Closing n ∷ ts)
+      → resumed (closing_step due c n) ts ≡ Granted d place → Left d place due c (Closing n ∷ ts)
   closing_sound input_name c n ts later e = λ before alone.
-      inputs_close before n ts later (subst (λ (b : Circuit). lead ts (closing_step input_name b n) ≡ Granted d place) alone e)
+      inputs_close before n ts later (subst (λ (b : Circuit). resumed (closing_step input_name b n) ts ≡ Granted d place) alone e)
   closing_sound (operand name gate pending) c n ts later e = gate_close name gate pending c n ts later e
   closing_sound (gate_line_close name) c n ts later e =
       let more = later line_end (with_name c name) e in
@@ -363,7 +363,7 @@ module _ (d : Circuit) (place : ℕ) where
   closing_sound outputs_end c n ts later e = dead e
 
   feed_sound : (due : Due) (c : Circuit) (n : ℕ) (ts : List Lexeme) → Later ts
-      → lead ts (feed_step due c n) ≡ Granted d place → Left d place due c (LineEnd n ∷ ts)
+      → resumed (feed_step due c n) ts ≡ Granted d place → Left d place due c (LineEnd n ∷ ts)
   feed_sound line_end c n ts later e = (ts, (λ rest ms p. placed_feed n p), later next_line c e)
   feed_sound outputs_end c n ts later e = record { end = LineEnd n; after = ts; whole = refl; ended = cc; circuit = cc }
   feed_sound inputs_line c n ts later e = dead e
@@ -379,7 +379,7 @@ module _ (d : Circuit) (place : ℕ) where
   feed_sound output_name c n ts later e = dead e
 
   end_sound : (due : Due) (c : Circuit) (n : ℕ) (ts : List Lexeme)
-      → lead ts (end_step due c n) ≡ Granted d place → Left d place due c (TextEnd n ∷ ts)
+      → resumed (end_step due c n) ts ≡ Granted d place → Left d place due c (TextEnd n ∷ ts)
   end_sound outputs_end c n ts e = record { end = TextEnd n; after = ts; whole = refl; ended = cc; circuit = cc }
   end_sound inputs_line c n ts e = dead e
   end_sound inputs_head c n ts e = dead e
@@ -395,7 +395,7 @@ module _ (d : Circuit) (place : ℕ) where
   end_sound output_name c n ts e = dead e
 
   step_sound : (t : Lexeme) (due : Due) (c : Circuit) (ts : List Lexeme) → Later ts
-      → lead ts (step due c t) ≡ Granted d place → Left d place due c (t ∷ ts)
+      → resumed (step due c t) ts ≡ Granted d place → Left d place due c (t ∷ ts)
   step_sound (Word w n) due c ts later e =
       let shape = meets (name_shape w) _ _ ts e in
       word_sound due c w n ts later shape.0 shape.1
@@ -450,7 +450,7 @@ module _ (d : Circuit) (place : ℕ) where
         end = ended.end;
         after = ended.after;
         text_is = found.whole;
-        front_is = found.marks;
+        front_is = found.words;
         ended = ended.ended;
       }
 

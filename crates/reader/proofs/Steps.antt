@@ -1,22 +1,18 @@
 -- Steps of the definition, at the words that the reader has tested.
-use Rattle.std.proofs.Common.{◌≡◌, ℕ, zero, suc, ◌+◌, ◌<◌, false, leb, List, [], ◌∷◌, map, length, get_or, set, Some, Err, vec_items, vec_len, Result, MatchResult, sym, refl, ap, ◌∙◌, arith}
+use Rattle.std.proofs.Common.{◌≡◌, ℕ, zero, suc, ◌<◌, List, [], ◌∷◌, map, length, get_or, set, Some, Err, vec_items, vec_len, Result, MatchResult, sym, refl, ap, ◌∙◌, arith}
 use Rattle.std.proofs.lemmas.List.{map-set, get_or-map, length-map}
-use Rattle.std.proofs.lemmas.Bool.{lt-leb}
 use Rattle.refusals.specs.declared.cause.Refusal.{Refusal}
 use Rattle.words.specs.Left.{onward}
-use Rattle.words.specs.Lexemes.{Lexeme, Opening, Closing, Word, LineEnd, TextEnd, Forbidden}
+use Rattle.words.specs.Lexemes.{Lexeme}
 use Rattle.circuit.specs.declared.name.Name.{Name}
 use Rattle.circuit.specs.declared.gate.Gate as code
 use Rattle.circuit.specs.declared.tables.Tables.{Tables}
-use Rattle.circuit.specs.Model.{Circuit, Gate}
+use Rattle.circuit.specs.Model.{Gate}
 use Rattle.circuit.specs.Tables.{name_bytes, gate_model, tables_model}
-use Rattle.reader.specs.Reading.{Due, operator, operand, Pending, full, Step, Go, Stop, Outcome, run, taken, last_named, step}
+use Rattle.reader.specs.Reading.{Due, Outcome, run, last_named, step, resumed}
+use Rattle.reader.proofs.DescribesPlaces.{run_step}
 use Rattle.reader.specs.declared.parser.Parser.{Parser}
-use Rattle.reader.specs.Parsing.{ahead, so_far, at, resumed, Refuses, Leads}
-
--- what follows a step that is known
-pub resumed_at : (s u : Step) (ts : List Lexeme) → s ≡ u → resumed s ts ≡ resumed u ts
-resumed_at s u ts e = ap (λ (x : Step). resumed x ts) e
+use Rattle.reader.specs.Parsing.{ahead, so_far, at, Refuses, Leads}
 
 -- the tables whose last gate got a name
 last_set : (name : List ℕ) (gs : List Gate) (i : ℕ) (g : Gate) → suc i ≡ length gs → g.op ≡ (get_or gs i g).op → g.operands ≡ (get_or gs i g).operands → g.name ≡ Some name → last_named name gs ≡ set gs i g
@@ -37,22 +33,11 @@ gate_renamed t name i g e r =
     (ap (λ (k : Gate). k.op) was) (ap (λ (k : Gate). k.operands) was) refl
     ∙ sym (map-set gate_model (vec_items t.gates) i h)
 
-run_step : (due : Due) (c : Circuit) (t : Lexeme) (ts : List Lexeme) → run due c (t ∷ ts) ≡ resumed (step due c t) ts
-run_step due c t ts = go (step due c t)
-  where
-    go : (s : Step) → elim s [ Go next d ↦ run next d ts | Stop end ↦ end ] ≡ resumed s ts
-    go (Go next d) = refl
-    go (Stop end) = refl
-
--- one token taken at a due is one step of the definition
-pub stepped : (due : Due) (p q : Parser) (t : Lexeme) → ahead p ≡ t ∷ onward t (ahead q) → q.tables ≡ p.tables → at due p ≡ resumed (step due (so_far q) t) (onward t (ahead q))
-stepped due p q t taken same =
-    ap (run due (so_far p)) taken ∙ run_step due (so_far p) t (onward t (ahead q))
-    ∙ ap (λ (tables : Tables). resumed (step due (tables_model tables) t) (onward t (ahead q))) (sym same)
-
--- the same at a lexeme that is known
-pub stepped_at : (due : Due) (p q : Parser) (t u : Lexeme) → ahead p ≡ t ∷ onward t (ahead q) → q.tables ≡ p.tables → t ≡ u → at due p ≡ resumed (step due (so_far q) u) (onward u (ahead q))
-stepped_at due p q t u taken same is = stepped due p q t taken same ∙ ap (λ (x : Lexeme). resumed (step due (so_far q) x) (onward x (ahead q))) is
+-- one token, which is that lexeme, taken at a due is one step of the definition
+pub stepped : (due : Due) (p q : Parser) (t u : Lexeme) → ahead p ≡ t ∷ onward t (ahead q) → q.tables ≡ p.tables → t ≡ u → at due p ≡ resumed (step due (so_far q) u) (onward u (ahead q))
+stepped due p q t u taken same is =
+    ap (run due (so_far p)) (taken ∙ ap (λ (x : Lexeme). x ∷ onward x (ahead q)) is) ∙ run_step due (so_far p) u (onward u (ahead q))
+    ∙ ap (λ (tables : Tables). resumed (step due (tables_model tables) u) (onward u (ahead q))) (sym same)
 
 -- how results lead on: an error that was carried up, a part before, a part after
 pub carried : {X : Type 0} (before : Outcome) (r : Result X Refusal) (goes : X → Type 0) (e f : Refusal) → r ≡ Err f → f ≡ e → Refuses before e → MatchResult r goes (Refuses before)
@@ -63,20 +48,3 @@ leads_from before mid r after e h = rw e h
 
 pub refuses_from : (before mid : Outcome) (e : Refusal) → before ≡ mid → Refuses mid e → Refuses before e
 refuses_from before mid e same h = rw same h
-
--- the opening bracket of an operand that is a gate
-pub gate_opened : (c : Circuit) (t : Lexeme) (n : ℕ) (name : List ℕ) (inner : Pending) (pending : List Pending) (allowed : ℕ) → t ≡ Opening n → length pending + allowed ≡ 6 → 0 < allowed → full inner ≡ false
-    → step (operand name inner pending) c t ≡ Go (operator name (inner ∷ pending)) c
-gate_opened c t n name inner pending allowed is room some open-place =
-    let shallow : leb 8 (2 + length pending) ≡ false = lt-leb 8 (2 + length pending) (omega arith) in
-    ap (step (operand name inner pending) c) is ∙ rw (shallow, open-place) refl
-
--- the text's end stops the reading of operands, so what comes after it does not matter
-pub operand_onward : (name : List ℕ) (inner : Pending) (pending : List Pending) (c : Circuit) (t : Lexeme) (ts : List Lexeme)
-    → resumed (step (operand name inner pending) c t) (onward t ts) ≡ resumed (step (operand name inner pending) c t) ts
-operand_onward name inner pending c (Opening n) ts = refl
-operand_onward name inner pending c (Closing n) ts = refl
-operand_onward name inner pending c (Word word n) ts = refl
-operand_onward name inner pending c (LineEnd n) ts = refl
-operand_onward name inner pending c (TextEnd n) ts = refl
-operand_onward name inner pending c (Forbidden n) ts = refl

@@ -1,16 +1,17 @@
 -- Which circuit a text describes: the written form of a circuit, its words, the rules for it, and the circuit that it
 -- stands for.
-use Rattle.std.specs.Prelude.{◌≡◌, ℕ, suc, ◌+◌, ◌≤◌, max, Bool, true, false, not, ◌&&◌, List, [], ◌∷◌, ◌++◌, map, length, is_some, Some, None, codes, Option, nat_eq}
+use Rattle.std.specs.Prelude.{◌≡◌, ℕ, suc, ◌+◌, ◌≤◌, max, Bool, true, false, not, ◌&&◌, List, [], ◌∷◌, ◌++◌, map, length, is_some, Some, None, codes, nat_eq}
 use Rattle.std.specs.Option.{unwrap_or}
 use Rattle.words.specs.Lexemes.{Lexeme, lexemes}
 use Rattle.words.specs.Lexemes as lexeme
+use Rattle.words.specs.Expected.{after_line}
 use Rattle.std.specs.List.{list_all, list_any}
 use Rattle.words.specs.Spelling.{name_shape}
 use Rattle.circuit.specs.declared.op.Op.{Op}
 use Rattle.circuit.specs.Ops.{op_word, fewest_operands, most_operands}
 use Rattle.circuit.specs.Model.{Circuit, line_count, names, line_named}
 use Rattle.circuit.specs.Lawful.{each_after, between, unclaimed}
-use Rattle.reader.specs.Reading.{Granted, reading, with_gate}
+use Rattle.reader.specs.Reading.{with_gate}
 
 -- An operand is a name, or a gate in brackets with operands of its own. Further operands follow it.
 pub data Operands : Type 0 where
@@ -32,14 +33,14 @@ pub record Source : Type 0 where
 -- Its words
 
 -- A word of a text without its place. A source has none of the last kind: the text's end, or a byte that is not allowed.
-pub data Mark : Type 0 where
-  opening : Mark
-  closing : Mark
-  word : List ℕ → Mark
-  line_feed : Mark
-  other : Mark
+pub data Written : Type 0 where
+  opening : Written
+  closing : Written
+  word : List ℕ → Written
+  line_feed : Written
+  other : Written
 
-abbrev pub unplaced : Lexeme → Mark
+abbrev pub unplaced : Lexeme → Written
 unplaced (lexeme.Opening n) = opening
 unplaced (lexeme.Closing n) = closing
 unplaced (lexeme.Word bytes n) = word bytes
@@ -48,43 +49,34 @@ unplaced (lexeme.TextEnd n) = other
 unplaced (lexeme.Forbidden n) = other
 
 -- Each of these is the words of a part, and then the further words ms.
-abbrev pub names_then : List (List ℕ) → List Mark → List Mark
+abbrev pub names_then : List (List ℕ) → List Written → List Written
 names_then ws ms = map word ws ++ ms
 
-abbrev pub operands_then : Operands → List Mark → List Mark
+abbrev pub operands_then : Operands → List Written → List Written
 operands_then none ms = ms
 operands_then (name_then w more) ms = word w ∷ operands_then more ms
 operands_then (gate_then op inner more) ms =
     opening ∷ (word (op_word op) ∷ operands_then inner (closing ∷ operands_then more ms))
 
-abbrev pub gate_line_then : GateLine → List Mark → List Mark
+abbrev pub gate_line_then : GateLine → List Written → List Written
 gate_line_then g ms =
     opening ∷ (word (codes "gate") ∷ (word g.name
     ∷ (opening ∷ (word (op_word g.op) ∷ operands_then g.operands (closing
     ∷ (closing ∷ (line_feed ∷ ms)))))))
 
-abbrev pub gate_lines_then : List GateLine → List Mark → List Mark
+abbrev pub gate_lines_then : List GateLine → List Written → List Written
 gate_lines_then [] ms = ms
 gate_lines_then (g ∷ gs) ms = gate_line_then g (gate_lines_then gs ms)
 
-abbrev pub inputs_line_then : List (List ℕ) → List Mark → List Mark
+abbrev pub inputs_line_then : List (List ℕ) → List Written → List Written
 inputs_line_then ws ms = opening ∷ (word (codes "inputs") ∷ names_then ws (closing ∷ (line_feed ∷ ms)))
 
-abbrev pub outputs_line_then : List (List ℕ) → List Mark → List Mark
+abbrev pub outputs_line_then : List (List ℕ) → List Written → List Written
 outputs_line_then ws ms = opening ∷ (word (codes "outputs") ∷ names_then ws (closing ∷ ms))
 
 -- the words of a source, but for the end of its last line
-abbrev pub words_of : Source → List Mark
+abbrev pub words_of : Source → List Written
 words_of s = inputs_line_then s.inputs (gate_lines_then s.gates (outputs_line_then s.outputs []))
-
--- The last line ends with a line feed, behind which the rest of the text begins, or with the text.
-abbrev pub rest_place : Lexeme → Option ℕ
-rest_place (lexeme.LineEnd n) = Some (n + 1)
-rest_place (lexeme.TextEnd n) = Some n
-rest_place (lexeme.Opening n) = None
-rest_place (lexeme.Closing n) = None
-rest_place (lexeme.Word bytes n) = None
-rest_place (lexeme.Forbidden n) = None
 
 -- The circuit that it stands for
 
@@ -206,13 +198,7 @@ pub record Describes (text : List ℕ) (c : Circuit) (place : ℕ) : Type 0 wher
   pub after : List Lexeme
   pub text_is : lexemes 0 text ≡ front ++ (end ∷ after)
   pub front_is : map unplaced front ≡ words_of source
-  pub ended : rest_place end ≡ Some place
-
--- Reading grants just the texts that describe a circuit, with that circuit and the place of the rest.
-abbrev pub ReadsWhatIsDescribed : Type 0
-ReadsWhatIsDescribed =
-    (text : List ℕ) (c : Circuit) (place : ℕ) →
-    (reading text ≡ Granted c place → Describes text c place) × (Describes text c place → reading text ≡ Granted c place)
+  pub ended : after_line end ≡ Some place
 
 -- A text describes at most one circuit, and its rest begins at one place.
 abbrev pub OneCircuit : Type 0

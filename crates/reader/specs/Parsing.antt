@@ -1,19 +1,16 @@
 -- How the parts of the reader follow the definition of reading.
-use Rattle.std.specs.Prelude.{◌≡◌, ℕ, ◌+◌, ◌≤◌, Bool, false, cond, not, ◌&&◌, List, length, Result, MatchResult}
+use Rattle.std.specs.Prelude.{◌≡◌, ℕ, ◌+◌, ◌≤◌, List, length, Some, None, Option, Result, MatchResult}
 use Rattle.refusals.specs.declared.cause.Refusal.{Refusal}
 use Rattle.refusals.specs.declared.cause.Refusal.TheVariants as refusal
-use Rattle.refusals.specs.declared.layers.TextRefusal.TheVariants.{MalformedWord}
-use Rattle.refusals.specs.declared.layers.CircuitRefusal.TheVariants.{NameTaken}
 use Rattle.words.specs.Left.{left}
-use Rattle.words.specs.Lexemes.{Lexeme, Opening, Closing, Word, LineEnd, TextEnd, Forbidden}
-use Rattle.words.specs.Expected.{unexpected}
-use Rattle.words.specs.Spelling.{name_shape}
+use Rattle.words.specs.Lexemes.{Lexeme}
+use Rattle.words.specs.declared.expect.PlacedWord.{PlacedWord}
 use Rattle.circuit.specs.Model.{Circuit}
 use Rattle.circuit.specs.Tables.{tables_model}
 use Rattle.reader.specs.declared.parser.Parser.{Parser}
 use Rattle.reader.specs.declared.head.Head.{Head}
 use Rattle.reader.specs.declared.head.Head.TheVariants as head
-use Rattle.reader.specs.Reading.{Pending, Due, gate_name, output_name, Step, Go, Stop, Outcome, Refused, run, taken}
+use Rattle.reader.specs.Reading.{Pending, Due, gate_name, output_name, Outcome, Refused, run, word_step, resumed}
 
 -- the lexemes that a parser has yet to read, and the circuit that it has read
 abbrev pub ahead : Parser → List Lexeme
@@ -25,11 +22,6 @@ so_far p = tables_model p.tables
 -- what reading answers from here on, where that is due
 abbrev pub at : Due → Parser → Outcome
 at due p = run due (so_far p) (ahead p)
-
--- what reading answers after a step
-abbrev pub resumed : Step → List Lexeme → Outcome
-resumed (Go due c) ts = run due c ts
-resumed (Stop end) ts = end
 
 -- an error is the refusal of the definition, or want of memory
 abbrev pub Refuses : Outcome → Refusal → Type 0
@@ -53,25 +45,12 @@ Advances due before r next after =
 abbrev pub InGates : ℕ → (List ℕ → List Pending → Type 0) → Type 0
 InGates allowed goes = (name : List ℕ) (pending : List Pending) → length pending + allowed ≡ 6 → goes name pending
 
--- a word of the shape of a name that no line has yet
-abbrev pub is_new_name : Circuit → Lexeme → Bool
-is_new_name c (Opening n) = false
-is_new_name c (Closing n) = false
-is_new_name c (Word word n) = name_shape word && not (taken c word)
-is_new_name c (LineEnd n) = false
-is_new_name c (TextEnd n) = false
-is_new_name c (Forbidden n) = false
-
--- the refusal of a lexeme where a new name is due
-abbrev pub not_new : Lexeme → Refusal
-not_new (Opening n) = unexpected (Opening n)
-not_new (Closing n) = unexpected (Closing n)
-not_new (Word word n) = cond (name_shape word) (refusal.Circuit (NameTaken n)) (refusal.Text (MalformedWord n))
-not_new (LineEnd n) = unexpected (LineEnd n)
-not_new (TextEnd n) = unexpected (TextEnd n)
-not_new (Forbidden n) = unexpected (Forbidden n)
-
 -- what is due after a head
 abbrev pub after_head : Head → Due
 after_head head.Gate = gate_name
 after_head head.Outputs = output_name
+
+-- what reading answers once a name of a list was taken, or nothing but the list's closing bracket
+abbrev pub listed : Due → Due → Parser → Option PlacedWord → Outcome
+listed name closed p None = at closed p
+listed name closed p (Some w) = resumed (word_step name (so_far p) w.bytes.now w.place) (ahead p)

@@ -256,6 +256,11 @@ abbrev pub run : Due → Circuit → List Lexeme → Outcome
 run due c [] = Refused (refusal.Form (Misplaced 0))
 run due c (t ∷ ts) = elim (step due c t) [ Go next d ↦ run next d ts | Stop end ↦ end ]
 
+-- what reading answers after a step
+abbrev pub resumed : Step → List Lexeme → Outcome
+resumed (Go due c) ts = run due c ts
+resumed (Stop end) ts = end
+
 abbrev pub empty : Circuit
 empty = record { inputs = []; gates = []; outputs = [] }
 

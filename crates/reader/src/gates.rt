@@ -1,18 +1,19 @@
-// The inside of a gate. `gate` and `operands` are mutually recursive, and each bracket that is opened leaves one less that
-// may be.
-ghost use Rattle.std.specs.Prelude.{◌≡◌, ℕ, ◌<◌, ◌≤◌, Bool, true, false, List, [], length, OnOk, nat_le, MatchResult};
+// The inside of a gate. `gate` calls itself where an operand is a gate, and each bracket that is opened leaves one less that may be.
+ghost use Rattle.std.specs.Prelude.{◌≡◌, ℕ, ◌<◌, ◌≤◌, true, List, [], length, IfOk, OnOk, nat_le, MatchResult};
 ghost use Rattle.refusals.specs.declared.cause.Refusal.TheVariants.{Text};
 ghost use Rattle.refusals.specs.declared.layers.TextRefusal.TheVariants.{BracketsTooDeep};
-ghost use Rattle.words.specs.Expected.{is_closing, is_opening};
-ghost use Rattle.words.specs.Lexemes.{Opening, lexeme, is_end};
+ghost use Rattle.words.specs.Expected.{is_opening};
+ghost use Rattle.words.specs.Lexemes.{Opening, lexeme};
 ghost use Rattle.circuit.specs.Model.{line_count};
-ghost use Rattle.reader.specs.Reading.{Pending, operator, operand, full, with_operand, gate_made, gate_line_close, closing_step, step};
-ghost use Rattle.reader.specs.Parsing.{ahead, so_far, at, resumed, Leads, InGates};
+ghost use Rattle.reader.specs.Reading.{Pending, operator, operand, gate_made, gate_line_close, closing_step, resumed};
+ghost use Rattle.reader.specs.Parsing.{ahead, so_far, at, Leads, InGates};
+ghost use Rattle.reader.specs.Gates.{pending_of, going_on, Opens};
 
 use crate::parser::Parser;
+use crate::pending::{GatePart, PendingGate};
 use circuit::{Gate, MOST_LINES, Op};
-use refusals::{CircuitRefusal, FormRefusal, Refusal, TextRefusal};
-use words::{PlacedWord, Token, expect_word};
+use refusals::{CircuitRefusal, Refusal, TextRefusal};
+use words::{Token, expect_word};
 
 // The most brackets that are open together.
 const MOST_BRACKETS: usize = 8;
@@ -29,14 +30,7 @@ fn within_brackets(token: Token<'_>, allowed: usize) -> Result<Token<'_>, Refusa
     }
 }
 
-// Whether a gate with these operands takes no further one.
-fn is_full(op: Op, operands: &[usize]) -> bool
-    ensures { result ≡ full (record { op = op; operands = operands.now }) }
-{
-    operands.len() >= op.most()
-}
-
-impl Parser<'_> {
+impl<'a> Parser<'a> {
     // Whether the circuit has as many lines as it may have.
     fn has_all_lines(&self) -> bool
         ensures { result ≡ nat_le 512 (line_count (so_far self.now)) }
@@ -50,23 +44,43 @@ impl Parser<'_> {
         ensures fewer { OnOk result (length (ahead self.new) ≤ length (ahead self.old)) }
     {
         let token = within_brackets(self.next(), allowed)?;
-        let PlacedWord { bytes, place } = expect_word(token)?;
-        let op = Op::try_from(bytes).map_err(|_| FormRefusal::UnknownWord { place })?;
+        let op = expect_word(token)?.named()?;
         Ok(op)
     }
 
+    // What stands next inside the gate.
+    fn gate_part(&mut self, gate: &PendingGate) -> Result<GatePart<'a>, Refusal>
+        ensures leads { InGates gate.now.allowed (λ name pending. Leads (at (operand name (pending_of gate.now) pending) self.old) result (going_on name (pending_of gate.now) pending self.new)) }
+        ensures opens { IfOk result (Opens gate.now.allowed) }
+        ensures moves { OnOk result (length (ahead self.new) < length (ahead self.old)) }
+    {
+        match within_brackets(self.next(), gate.allowed)? {
+            Token::Opening { place } => {
+                gate.expect_room(place)?;
+                Ok(GatePart::Opening {
+                    allowed: gate.allowed - 1,
+                })
+            }
+            Token::Closing { place } => Ok(GatePart::Closing { place }),
+            token => {
+                let word = expect_word(token)?;
+                gate.expect_room(word.place)?;
+                Ok(GatePart::Name { word })
+            }
+        }
+    }
+
     // The gate is complete: it gets the next line number.
-    fn close_gate(&mut self, op: Op, operands: Vec<usize>, place: usize) -> Result<usize, Refusal>
-        ensures leads { (name : List ℕ) (pending : List Pending) → Leads (resumed (closing_step (operand name (record { op = op; operands = operands.items }) pending) (so_far self.old) place) (ahead self.old)) result (λ line. resumed (gate_made (so_far self.new) name line pending) (ahead self.new)) }
+    fn close_gate(&mut self, gate: PendingGate, place: usize) -> Result<usize, Refusal>
+        ensures leads { (name : List ℕ) (pending : List Pending) → Leads (resumed (closing_step (operand name (pending_of gate) pending) (so_far self.old) place) (ahead self.old)) result (λ line. resumed (gate_made (so_far self.new) name line pending) (ahead self.new)) }
         ensures same { ahead self.new ≡ ahead self.old }
     {
-        if operands.len() < op.fewest() {
-            return Err(FormRefusal::WrongOperandCount { place }.into());
-        }
+        gate.expect_enough(place)?;
         if self.has_all_lines() {
             return Err(CircuitRefusal::LimitPassed { place }.into());
         }
         let line = self.tables.line_count();
+        let PendingGate { op, operands, .. } = gate;
         self.tables.gates.push(Gate {
             name: None,
             op,
@@ -83,58 +97,25 @@ impl Parser<'_> {
         self.gate(MOST_BRACKETS - 2)
     }
 
-    // A gate, from its operator to its closing bracket: the number of its line.
-    #[cycle(gate_operand_operands)]
+    // A gate, from its operator to its closing bracket: the number of its line. (A loop and no chain: each operand begins where
+    // the one before it ended.)
     fn gate(&mut self, allowed: usize) -> Result<usize, Refusal>
         ensures leads { InGates allowed (λ name pending. Leads (at (operator name pending) self.old) result (λ line. resumed (gate_made (so_far self.new) name line pending) (ahead self.new))) }
         ensures fewer { OnOk result (length (ahead self.new) ≤ length (ahead self.old)) }
     {
         let op = self.operator(allowed)?;
-        self.operands(op, allowed)
-    }
-
-    // The operands of a gate, to its closing bracket: the number of the gate's line. (A loop and no chain: the next token
-    // depends on what the last operand took, and each may end the reading.)
-    #[cycle(gate_operand_operands)]
-    fn operands(&mut self, op: Op, allowed: usize) -> Result<usize, Refusal>
-        ensures leads { InGates allowed (λ name pending. Leads (at (operand name (record { op = op; operands = [] }) pending) self.old) result (λ line. resumed (gate_made (so_far self.new) name line pending) (ahead self.new))) }
-        ensures fewer { OnOk result (length (ahead self.new) ≤ length (ahead self.old)) }
-    {
-        let mut operands = Vec::new(self.heap);
+        let mut gate = PendingGate {
+            op,
+            operands: Vec::new(self.heap),
+            allowed,
+        };
         'operands: loop {
-            let token = self.next();
-            if let Token::Closing { place } = token {
-                return self.close_gate(op, operands, place);
-            }
-            let is_full = is_full(op, &operands);
-            let line = self.operand(token, is_full, allowed)?;
-            operands.push(line)?;
-        }
-    }
-
-    // One operand: the line of its name, or of the gate that it is. Of the operands before it only one thing matters, whether
-    // the gate has as many as it takes.
-    #[cycle(gate_operand_operands)]
-    fn operand(&mut self, token: Token<'_>, is_full: bool, allowed: usize) -> Result<usize, Refusal>
-        requires { is_closing (lexeme token) ≡ false }
-        ensures leads { InGates allowed (λ name pending. (inner : Pending) → full inner ≡ is_full → Leads (resumed (step (operand name inner pending) (so_far self.old) (lexeme token.entry)) (ahead self.old)) result (λ line. at (operand name (with_operand inner line) pending) self.new)) }
-        ensures fewer { OnOk result (length (ahead self.new) ≤ length (ahead self.old)) }
-        ensures going { OnOk result (is_end (lexeme token.entry) ≡ false) }
-    {
-        let token = within_brackets(token, allowed)?;
-        if let Token::Opening { place } = token {
-            if is_full {
-                return Err(FormRefusal::WrongOperandCount { place }.into());
-            }
-            return self.gate(allowed - 1);
-        }
-        let PlacedWord { bytes, place } = expect_word(token)?;
-        if is_full {
-            return Err(FormRefusal::WrongOperandCount { place }.into());
-        }
-        match self.tables.line_named(bytes) {
-            Some(line) => Ok(line),
-            None => Err(CircuitRefusal::UnknownName { place }.into()),
+            let line = match self.gate_part(&gate)? {
+                GatePart::Name { word } => self.line_of(word)?,
+                GatePart::Opening { allowed } => self.gate(allowed)?,
+                GatePart::Closing { place } => return self.close_gate(gate, place),
+            };
+            gate.operands.push(line)?;
         }
     }
 }

@@ -4,7 +4,9 @@
 mod gates;
 mod head;
 mod lines;
+mod names;
 mod parser;
+mod pending;
 pub mod reading;
 pub mod rest;
 mod text;

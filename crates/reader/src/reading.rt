@@ -37,6 +37,7 @@ fn read_tables(heap: Global, text: &[u8]) -> Result<(Tables, usize), Refusal>
 }
 
 // Reads as the definition does. What `read` promises besides follows from that.
+#[tactic(auto, using(crate::proofs::Lawful::granted_lawful, crate::proofs::Lawful::reading_short))]
 fn read_text<'a>(heap: Global, text: &'a [u8], circuit: &mut Circuit) -> Result<Rest<'a>, Refusal>
     ensures { Reads text.now result (circuit_model circuit.new) }
 {
@@ -52,6 +53,7 @@ fn read_text<'a>(heap: Global, text: &'a [u8], circuit: &mut Circuit) -> Result<
 
 // Reads the circuit at the front of a text into the caller's circuit, and hands back the rest of the text. A text that is
 // refused leaves the blank circuit.
+#[tactic(auto, using(crate::proofs::Promised::follows))]
 pub fn read<'a>(heap: Global, text: &'a [u8], circuit: &mut Circuit) -> Result<Rest<'a>, Refusal>
     ensures reads { Reads text.now result (circuit_model circuit.new) }
     ensures follows { Follows text.now result (circuit_model circuit.new) }

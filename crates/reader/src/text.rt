@@ -29,21 +29,15 @@ impl Parser<'_> {
         self.line_end()
     }
 
-    // The whole circuit: the place where the rest of the text begins. (A loop and no chain: the next line begins where the last
-    // one ended, and each may end the reading.)
+    // The whole circuit: the place where the rest of the text begins.
     pub fn circuit_text(&mut self) -> Result<usize, Refusal>
         ensures { Leads (at inputs_line self.old) result (λ place. Granted (so_far self.new) place) }
     {
         self.inputs_line()?;
-        'lines: loop {
-            self.line_begin()?;
-            match self.next_head()? {
-                Head::Gate => self.gate_line()?,
-                Head::Outputs => {
-                    self.output_names()?;
-                    return self.outputs_end();
-                }
-            }
+        'lines: while let Head::Gate = self.next_line()? {
+            self.gate_line()?;
         }
+        self.output_names()?;
+        self.outputs_end()
     }
 }

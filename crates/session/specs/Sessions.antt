@@ -54,13 +54,13 @@ entered_answer s place next (Err e) = record { output = refused_line (cause_at e
 -- what a job that was read does
 abbrev pub job_answer : Session → ℕ → Job → ℕ → Answered
 job_answer s place (job.Kind k) next = record { output = kind_line k; next = next; session = with_kind s k }
-job_answer s place (job.Fault asked) next = entered_answer s place next (enter_fault s.folder asked.line asked.pin asked.level)
+job_answer s place (job.Fault k asked) next = entered_answer s place next (enter_fault s.folder asked.line asked.pin asked.level)
 job_answer s place job.List next = record { output = listing s.folder.circuit s.folder.table; next = next; session = s }
 
 -- the jobs that take memory: a fault that is entered, and a listing
 abbrev pub job_stores : Session → Job → Bool
 job_stores s (job.Kind k) = false
-job_stores s (job.Fault asked) = is_ok (enter_fault s.folder asked.line asked.pin asked.level)
+job_stores s (job.Fault k asked) = is_ok (enter_fault s.folder asked.line asked.pin asked.level)
 job_stores s job.List = true
 
 abbrev pub outcome_stores : Session → Outcome → Bool
@@ -79,7 +79,7 @@ outcome_answer s text place (Asked job next) = Some (job_answer s place job next
 outcome_answer s text place (Refused e) = refused_answer s text (cause_of e)
 
 abbrev pub line_outcome : Session → List ℕ → ℕ → Outcome
-line_outcome s text place = run (names s.folder.circuit) (is_some s.kind) line_begin (lexemes_from text (min place (length text)))
+line_outcome s text place = run (names s.folder.circuit) s.kind line_begin (lexemes_from text (min place (length text)))
 
 -- the line that begins at a place of the text; nothing where no line begins any more
 abbrev pub answered : Session → List ℕ → ℕ → Option Answered

@@ -1,13 +1,14 @@
 // Where lines end.
-ghost use Rattle.std.specs.Prelude.{◌≡◌, ◌==◌};
-ghost use Rattle.std.specs.List.{position};
-ghost use Rattle.session.specs.Sessions.{line_after};
+ghost use Rattle.std.specs.Prelude.{◌≡◌, ◌≤◌, length};
+ghost use Rattle.std.specs.List.{prefix_len};
+ghost use Rattle.session.specs.Sessions.{is_no_feed, line_after};
 
-// How many bytes stand before the first line feed, if there is one.
-fn before_feed(bytes: &[u8]) -> Option<usize>
-    ensures { result ≡ position (λ b. b == 10) bytes.now }
+// How many bytes stand before the first line feed, or in all where there is none.
+fn before_feed(bytes: &[u8]) -> usize
+    ensures within { result ≤ length bytes.now }
+    ensures value { result ≡ prefix_len is_no_feed bytes.now }
 {
-    bytes.iter().position(|byte| *byte == b'\n')
+    bytes.iter().take_while(|byte| **byte != b'\n').count()
 }
 
 // The place after the first line feed from that place on, or the text's end.
@@ -15,8 +16,6 @@ pub fn line_after(text: &[u8], place: usize) -> usize
     ensures { result ≡ line_after text.now place }
 {
     let start = place.min(text.len());
-    match before_feed(&text[start..]) {
-        Some(before) => start + before + 1,
-        None => text.len(),
-    }
+    let feed = start + before_feed(&text[start..]);
+    (feed + 1).min(text.len())
 }

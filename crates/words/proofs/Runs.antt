@@ -1,5 +1,5 @@
 -- The lexemes of a text after a space, and of a run of letters and digits.
-use Rattle.std.proofs.Common.{◌≡◌, ℕ, zero, suc, ◌+◌, ◌-◌, ◌<◌, ◌≤◌, true, false, List, [], ◌∷◌, length, get_or, take, drop, refl, ap, ◌∙◌, arith}
+use Rattle.std.proofs.Common.{◌≡◌, ℕ, zero, suc, ◌+◌, ◌-◌, ◌<◌, ◌≤◌, false, List, [], ◌∷◌, length, get_or, take, drop, refl, ap, ◌∙◌, arith}
 use Rattle.std.specs.List.{prefix_len}
 use Rattle.std.proofs.lemmas.List.{drop_more, drop-drop, get_or-drop, length-drop, length-take-le}
 use Rattle.std.proofs.lemmas.List.Sums.{prefix_len-drop_yes, prefix_len-le-length, prefix_len_stops}
@@ -41,10 +41,7 @@ begun_apart b d n c ts h l = grind arith
 begun_joined : (b n : ℕ) (bytes : List ℕ) (ts : List Lexeme) → prefixed b n (Word bytes (n + 1) ∷ ts) ≡ Word (b ∷ bytes) n ∷ ts
 begun_joined b n bytes ts = grind arith
 
--- a byte is of its class, and of no other
-class_yes : (b : ℕ) (c : ByteClass) → is_of c b ≡ true → class b ≡ c
-class_yes b c h = grind arith
-
+-- a byte is of no class but its own
 class_no : (b : ℕ) (c : ByteClass) → is_of c b ≡ false → class b ≡ c → ⊥
 class_no b c h e = grind arith
 

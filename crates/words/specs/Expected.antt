@@ -1,11 +1,13 @@
 -- Lexemes that are not what is due, and how they are refused.
-use Rattle.std.specs.Prelude.{◌≡◌, ℕ, Bool, true, false, cond}
+use Rattle.std.specs.Prelude.{◌≡◌, ℕ, ◌+◌, ◌∷◌, Bool, true, false, cond, Some, None, Option, Result, MatchResult}
 use Rattle.refusals.specs.declared.cause.Refusal.{Refusal}
 use Rattle.refusals.specs.declared.cause.Refusal.TheVariants as refusal
 use Rattle.refusals.specs.declared.layers.TextRefusal.TheVariants.{ForbiddenByte, MalformedWord}
 use Rattle.refusals.specs.declared.layers.FormRefusal.TheVariants.{Misplaced}
 use Rattle.words.specs.declared.expect.Mark.{Mark}
 use Rattle.words.specs.declared.expect.Mark.TheVariants as mark
+use Rattle.words.specs.declared.lexer.Lexer.{Lexer}
+use Rattle.words.specs.Left.{left, onward}
 use Rattle.words.specs.Lexemes.{Lexeme, Opening, Closing, Word, LineEnd, TextEnd, Forbidden}
 use Rattle.words.specs.Spelling.{name_shape}
 
@@ -65,3 +67,19 @@ is_mark mark.LineEnd = is_feed
 -- the lexeme is not the one that is due, and this is its refusal
 abbrev pub Unmet : (Lexeme → Bool) → Lexeme → Refusal → Type 0
 Unmet met t e = (met t ≡ false) × (e ≡ unexpected t)
+
+-- A line ends with a line feed, behind which the next begins, or with the text.
+abbrev pub after_line : Lexeme → Option ℕ
+after_line (LineEnd n) = Some (n + 1)
+after_line (TextEnd n) = Some n
+after_line (Opening n) = None
+after_line (Closing n) = None
+after_line (Word bytes n) = None
+after_line (Forbidden n) = None
+
+-- A lexer took one lexeme where a line must end: the place after the line, or the refusal of a lexeme that ends none.
+pub record LineEnded (before : Lexer) (r : Result ℕ Refusal) (after : Lexer) : Type 0 where
+  pub end : Lexeme
+  pub taken : left before ≡ end ∷ onward end (left after)
+  pub same : after.text ≡ before.text
+  pub answer : MatchResult r (λ n. after_line end ≡ Some n) (λ e. (after_line end ≡ None) × (e ≡ unexpected end))

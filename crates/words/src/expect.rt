@@ -1,9 +1,11 @@
 // Taking the token that is due, and refusing any other.
-ghost use Rattle.std.specs.Prelude.{◌≡◌, true, MatchResult};
-ghost use Rattle.words.specs.Expected.{unexpected, Unmet, is_name_word, is_mark, mark_at};
+ghost use Rattle.std.specs.Prelude.{◌≡◌, true, Ok, Err, MatchResult};
+ghost use Rattle.refusals.specs.declared.layers.FormRefusal.TheVariants.{UnknownWord};
+ghost use Rattle.words.specs.Expected.{unexpected, Unmet, is_name_word, is_mark, mark_at, LineEnded};
 ghost use Rattle.words.specs.Lexemes.{Word, lexeme};
 ghost use Rattle.words.specs.Spelling.{name_shape};
 
+use crate::lexer::Lexer;
 use crate::spelling::is_name;
 use crate::token::Token;
 use refusals::{FormRefusal, Refusal, TextRefusal};
@@ -60,5 +62,32 @@ pub fn expect_mark(token: Token<'_>, due: Mark) -> Result<usize, Refusal>
         | (Mark::Closing, Token::Closing { place })
         | (Mark::LineEnd, Token::LineEnd { place }) => Ok(place),
         (_, other) => Err(unexpected(other)),
+    }
+}
+
+impl<'a> PlacedWord<'a> {
+    // What the word is the name of.
+    pub fn named<T: TryFrom<&'a [u8]>>(self) -> Result<T, FormRefusal>
+    where
+        T::Error: Drop,
+        ensures { MatchResult result (λ x. T.try_from_gives self.entry.bytes (Ok x)) (λ e. (e ≡ UnknownWord self.entry.place) × ((why : T.Error) × T.try_from_gives self.entry.bytes (Err why))) }
+    {
+        let place = self.place;
+        match T::try_from(self.bytes) {
+            Ok(meaning) => Ok(meaning),
+            Err(_) => Err(FormRefusal::UnknownWord { place }),
+        }
+    }
+}
+
+impl Lexer<'_> {
+    // The end of a line, which may be the text's end: the place after it.
+    pub fn line_end(&mut self) -> Result<usize, Refusal>
+        ensures { LineEnded self.old result self.new }
+    {
+        match self.next_token() {
+            Token::TextEnd { place } => Ok(place),
+            token => Ok(expect_mark(token, Mark::LineEnd)? + 1),
+        }
     }
 }
