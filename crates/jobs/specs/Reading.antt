@@ -1,7 +1,6 @@
 -- How the parts of the job reader follow the definition.
 use Rattle.std.specs.Prelude.{◌≡◌, Some, None, Ok, Err, Option, Result, MatchResult}
 use Rattle.refusals.specs.declared.cause.Refusal.{Refusal}
-use Rattle.circuit.specs.Circuits.{circuit_model}
 use Rattle.circuit.specs.Model.{names}
 use Rattle.words.specs.Left.{left}
 use Rattle.jobs.specs.declared.job.JobLine.{JobLine}
@@ -14,7 +13,7 @@ Leads before r after = MatchResult r (λ x. before ≡ after x) (λ e. before �
 
 -- what reading answers from here on, where that is due
 abbrev pub at : Due → JobReader → Outcome
-at due r = run (names (circuit_model r.circuit.now)) r.chosen due (left r.lexer)
+at due r = run (names r.circuit.now) r.chosen due (left r.lexer)
 
 -- the answer of a call that reads a job line
 abbrev pub job_answer : Outcome → Result (Option JobLine) Refusal

@@ -1,6 +1,5 @@
 // Reading a job line, for callers.
 ghost use Rattle.std.specs.Prelude.{◌≡◌, min, length};
-ghost use Rattle.circuit.specs.Circuits.{circuit_model};
 ghost use Rattle.circuit.specs.Model.{names};
 ghost use Rattle.words.specs.Lexemes.{lexemes_from};
 ghost use Rattle.jobs.specs.JobLines.{line_begin, run};
@@ -20,7 +19,7 @@ pub fn read_job(
     circuit: &Circuit,
     chosen: Option<Kind>,
 ) -> Result<Option<JobLine>, Refusal>
-    ensures { result ≡ job_answer (run (names (circuit_model circuit.now)) chosen line_begin (lexemes_from text.now (min place (length text.now)))) }
+    ensures { result ≡ job_answer (run (names circuit.now) chosen line_begin (lexemes_from text.now (min place (length text.now)))) }
 {
     let mut lexer = Lexer::new(text, place);
     let token = lexer.next_token();

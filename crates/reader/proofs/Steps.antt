@@ -8,7 +8,7 @@ use Rattle.circuit.specs.declared.name.Name.{Name}
 use Rattle.circuit.specs.declared.gate.Gate as code
 use Rattle.circuit.specs.declared.tables.Tables.{Tables}
 use Rattle.circuit.specs.Model.{Gate}
-use Rattle.circuit.specs.Tables.{name_bytes, gate_model, tables_model}
+use Rattle.circuit.specs.Tables.{gate_model, tables_model}
 use Rattle.reader.specs.Reading.{Due, Outcome, run, last_named, step, resumed}
 use Rattle.reader.proofs.DescribesPlaces.{run_step}
 use Rattle.reader.specs.declared.parser.Parser.{Parser}
@@ -23,12 +23,12 @@ last_set name (h ∷ (k ∷ gs)) zero g e o p m = absurd (omega arith)
 last_set name (h ∷ (k ∷ gs)) (suc i) g e o p m = ap (λ (rest : List Gate). h ∷ rest) (last_set name (k ∷ gs) i g (omega arith) o p m)
 
 pub gate_renamed : (t : Tables) (name : Name) (i : ℕ) (g : code.Gate) → suc i ≡ vec_len t.gates → g ≡ get_or (vec_items t.gates) i g
-    → last_named (name_bytes name) (map gate_model (vec_items t.gates)) ≡ map gate_model (set (vec_items t.gates) i (record { name = Some name; op = g.op; operands = g.operands }))
+    → last_named name (map gate_model (vec_items t.gates)) ≡ map gate_model (set (vec_items t.gates) i (record { name = Some name; op = g.op; operands = g.operands }))
 gate_renamed t name i g e r =
     let h : code.Gate = record { name = Some name; op = g.op; operands = g.operands } in
     let inside : i < length (vec_items t.gates) = omega (arith, t.gates.ok.0) in
     let was : gate_model g ≡ get_or (map gate_model (vec_items t.gates)) i (gate_model h) = ap gate_model r ∙ sym (get_or-map gate_model (vec_items t.gates) i g (gate_model h) inside) in
-    last_set (name_bytes name) (map gate_model (vec_items t.gates)) i (gate_model h)
+    last_set name (map gate_model (vec_items t.gates)) i (gate_model h)
     (e ∙ sym (length-map (vec_items t.gates) gate_model ∙ sym t.gates.ok.0))
     (ap (λ (k : Gate). k.op) was) (ap (λ (k : Gate). k.operands) was) refl
     ∙ sym (map-set gate_model (vec_items t.gates) i h)

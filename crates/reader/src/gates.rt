@@ -1,4 +1,5 @@
-// The inside of a gate. `gate` calls itself where an operand is a gate, and each bracket that is opened leaves one less that may be.
+// The inside of a gate. `gate` and `operands` are mutually recursive, and each bracket that is opened leaves one less that
+// may be.
 ghost use Rattle.std.specs.Prelude.{◌≡◌, ℕ, ◌<◌, ◌≤◌, true, List, [], length, IfOk, OnOk, nat_le, MatchResult};
 ghost use Rattle.refusals.specs.declared.cause.Refusal.TheVariants.{Text};
 ghost use Rattle.refusals.specs.declared.layers.TextRefusal.TheVariants.{BracketsTooDeep};
@@ -97,18 +98,27 @@ impl<'a> Parser<'a> {
         self.gate(MOST_BRACKETS - 2)
     }
 
-    // A gate, from its operator to its closing bracket: the number of its line. (A loop and no chain: each operand begins where
-    // the one before it ended.)
+    // A gate, from its operator to its closing bracket: the number of its line.
+    #[cycle(gate_operands)]
     fn gate(&mut self, allowed: usize) -> Result<usize, Refusal>
         ensures leads { InGates allowed (λ name pending. Leads (at (operator name pending) self.old) result (λ line. resumed (gate_made (so_far self.new) name line pending) (ahead self.new))) }
         ensures fewer { OnOk result (length (ahead self.new) ≤ length (ahead self.old)) }
     {
         let op = self.operator(allowed)?;
-        let mut gate = PendingGate {
+        self.operands(PendingGate {
             op,
             operands: Vec::new(self.heap),
             allowed,
-        };
+        })
+    }
+
+    // The further operands of a gate, to its closing bracket: the number of its line. (A loop and no chain: each operand begins
+    // where the one before it ended.)
+    #[cycle(gate_operands)]
+    fn operands(&mut self, mut gate: PendingGate) -> Result<usize, Refusal>
+        ensures leads { InGates gate.allowed (λ name pending. Leads (at (operand name (pending_of gate) pending) self.old) result (λ line. resumed (gate_made (so_far self.new) name line pending) (ahead self.new))) }
+        ensures fewer { OnOk result (length (ahead self.new) ≤ length (ahead self.old)) }
+    {
         'operands: loop {
             let line = match self.gate_part(&gate)? {
                 GatePart::Name { word } => self.line_of(word)?,

@@ -3,7 +3,6 @@ ghost use Rattle.std.specs.Prelude.{◌≡◌, ℕ, ◌<◌, ◌≤◌, true, fa
 ghost use Rattle.refusals.specs.declared.cause.Refusal.TheVariants.{Circuit as CircuitCause};
 ghost use Rattle.refusals.specs.declared.layers.CircuitRefusal.TheVariants.{EndsEarly};
 ghost use Rattle.words.specs.Lexemes.{TextEnd, lexeme, is_end};
-ghost use Rattle.circuit.specs.Tables.{name_bytes};
 ghost use Rattle.reader.specs.Reading.{Granted, inputs_line, inputs_head, input_name, line_end, next_line, next_head, gate_name, gate_begin, operator, gate_line_close, output_name, outputs_end, word_step, resumed};
 ghost use Rattle.reader.specs.Parsing.{ahead, so_far, at, Leads, Advances, after_head, listed};
 
@@ -131,7 +130,7 @@ impl<'a> Parser<'a> {
 
     // The name of a gate line.
     pub fn gate_name(&mut self) -> Result<Name, Refusal>
-        ensures { Advances gate_name self.old result (λ n. gate_begin (name_bytes n)) self.new }
+        ensures { Advances gate_name self.old result (λ n. gate_begin n) self.new }
     {
         let word = expect_word(self.next())?;
         let word = self.new_name(word)?;
@@ -149,7 +148,7 @@ impl<'a> Parser<'a> {
     // The closing bracket of a gate line: the line's gate, which is the last, gets the name.
     #[tactic(auto, using(crate::proofs::Steps::stepped, crate::proofs::Steps::gate_renamed))]
     pub fn gate_line_close(&mut self, name: Name) -> Result<(), Refusal>
-        ensures { Advances (gate_line_close (name_bytes name)) self.old result (λ _. line_end) self.new }
+        ensures { Advances (gate_line_close name) self.old result (λ _. line_end) self.new }
     {
         expect_mark(self.next(), Mark::Closing)?;
         if let Some(gate) = self.tables.gates.last_mut() {

@@ -1,6 +1,5 @@
 // Reading a circuit, for callers.
 ghost use Rattle.std.specs.Prelude.{◌≡◌, length, MatchResult, nat_lt};
-ghost use Rattle.circuit.specs.Circuits.{circuit_model};
 ghost use Rattle.circuit.specs.Tables.{tables_model};
 ghost use Rattle.reader.specs.Describes.{OneCircuit};
 ghost use Rattle.reader.specs.Parsing.{Refuses};
@@ -39,7 +38,7 @@ fn read_tables(heap: Global, text: &[u8]) -> Result<(Tables, usize), Refusal>
 // Reads as the definition does. What `read` promises besides follows from that.
 #[tactic(auto, using(crate::proofs::Lawful::granted_lawful, crate::proofs::Lawful::reading_short))]
 fn read_text<'a>(heap: Global, text: &'a [u8], circuit: &mut Circuit) -> Result<Rest<'a>, Refusal>
-    ensures { Reads text.now result (circuit_model circuit.new) }
+    ensures { Reads text.now result circuit.new }
 {
     circuit.clear();
     let (tables, place) = read_tables(heap, text)?;
@@ -55,8 +54,8 @@ fn read_text<'a>(heap: Global, text: &'a [u8], circuit: &mut Circuit) -> Result<
 // refused leaves the blank circuit.
 #[tactic(auto, using(crate::proofs::Promised::follows))]
 pub fn read<'a>(heap: Global, text: &'a [u8], circuit: &mut Circuit) -> Result<Rest<'a>, Refusal>
-    ensures reads { Reads text.now result (circuit_model circuit.new) }
-    ensures follows { Follows text.now result (circuit_model circuit.new) }
+    ensures reads { Reads text.now result circuit.new }
+    ensures follows { Follows text.now result circuit.new }
     ensures unique { OneCircuit }
 {
     read_text(heap, text, circuit)

@@ -7,22 +7,18 @@ use Rattle.refusals.specs.Causes.{cause_of, folder_cause}
 use Rattle.words.specs.Lexemes.{lexemes_from}
 use Rattle.circuit.specs.Model.{names}
 use Rattle.folder.specs.Entries.{Entry}
-use Rattle.folder.specs.Folders.{Folder, folder_model}
+use Rattle.folder.specs.Folders.{Folder}
 use Rattle.folder.specs.Transitions.{Granted, enter_fault}
 use Rattle.jobs.specs.declared.job.Kind.{Kind}
 use Rattle.jobs.specs.declared.job.Job.{Job}
 use Rattle.jobs.specs.declared.job.Job.TheVariants as job
 use Rattle.jobs.specs.JobLines.{Outcome, NoMore, Asked, Refused, line_begin, run}
 use Rattle.replies.specs.Lines.{kind_line, entered_line, refused_line, listing}
-use Rattle.session.specs.declared.session.Session as code
 
 -- a folder, and the kind that was chosen
 pub record Session : Type 0 where
   pub folder : Folder
   pub kind : Option Kind
-
-abbrev pub session_model : code.Session → Session
-session_model s = record { folder = folder_model s.folder; kind = s.kind }
 
 -- the bytes that are written for a job line, the place where the next line begins, and the session afterwards
 pub record Answered : Type 0 where

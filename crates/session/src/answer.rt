@@ -1,8 +1,6 @@
 // Answering a job line.
 ghost use Rattle.std.specs.Prelude.{◌≡◌, None};
-ghost use Rattle.folder.specs.Folders.{folder_model};
 ghost use Rattle.jobs.specs.declared.job.Job.TheVariants as asked;
-ghost use Rattle.session.specs.Sessions.{session_model};
 ghost use Rattle.session.specs.Answers.{Answers, Does};
 
 use crate::entering::enter;
@@ -20,14 +18,14 @@ use std::alloc::Global;
 impl Session {
     // No kind is chosen yet.
     pub fn new(folder: Folder) -> Session
-        ensures { session_model result ≡ record { folder = folder_model folder; kind = None } }
+        ensures { result ≡ record { folder = folder; kind = None } }
     {
         Session { folder, kind: None }
     }
 
     // Enters the fault, or says why not; a refusal by the folder has the place of the job's line.
     fn enter(&mut self, kind: Kind, place: usize, fault: StuckAt) -> Result<Reply, Refusal>
-        ensures { Does (session_model self.old) place (asked.Fault kind fault) result (session_model self.new) }
+        ensures { Does self.old place (asked.Fault kind fault) result self.new }
     {
         match enter(&mut self.folder, kind, fault) {
             Ok(number) => Ok(Reply::Entered { number }),
@@ -43,7 +41,7 @@ impl Session {
 
     // Does what the job asks for.
     fn perform(&mut self, heap: Global, place: usize, job: Job) -> Result<Reply, Refusal>
-        ensures { Does (session_model self.old) place job result (session_model self.new) }
+        ensures { Does self.old place job result self.new }
     {
         match job {
             Job::Kind { kind } => {
@@ -66,7 +64,7 @@ impl Session {
         text: &[u8],
         place: usize,
     ) -> Result<Option<Answer>, Refusal>
-        ensures { Answers (session_model self.old) text.now place result (session_model self.new) }
+        ensures { Answers self.old text.now place result self.new }
     {
         match read_job(text, place, self.folder.circuit(), self.kind) {
             Ok(Some(JobLine { job, next })) => {

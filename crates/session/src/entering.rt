@@ -1,6 +1,5 @@
 // Entering a fault by the call that makes each change of a folder, under the chosen kind.
 ghost use Rattle.std.specs.Prelude.{◌≡◌};
-ghost use Rattle.folder.specs.Folders.{folder_model};
 ghost use Rattle.folder.specs.Transitions.{Follows, enter_fault};
 ghost use Rattle.law.specs.declared.call.Call.TheVariants as asked;
 ghost use Rattle.law.specs.Histories.{event_of, Step};
@@ -18,7 +17,7 @@ use values::seven::Seven;
 
 // Enters the fault under that kind. Entering works out no line, so the row has no place.
 fn enter_under(folder: &mut Folder, kind: Kind, fault: StuckAt) -> Result<Outcome, Refusal>
-    ensures step { Step (kind_of kind) (folder_model folder.old).circuit (event_of (asked.Enter fault) 0 result) (folder_model folder.old).table (folder_model folder.new).table }
+    ensures step { Step (kind_of kind) folder.old.circuit (event_of (asked.Enter fault) 0 result) folder.old.table folder.new.table }
     ensures circuit { folder.new.circuit ≡ folder.old.circuit }
 {
     let call = Call::Enter { fault };
@@ -30,13 +29,15 @@ fn enter_under(folder: &mut Folder, kind: Kind, fault: StuckAt) -> Result<Outcom
     }
 }
 
-// Enters the fault and answers the number of its entry, or says why not.
+// Enters the fault and answers the number of its entry, or says why not. (The whole result is matched: where `?` takes the outcome
+// out of it first, the check stops with an error of its own.)
 pub fn enter(folder: &mut Folder, kind: Kind, fault: StuckAt) -> Result<usize, Refusal>
-    ensures value { Follows (enter_fault (folder_model folder.old) fault.line fault.pin fault.level) (folder_model folder.old).table result (folder_model folder.new).table }
+    ensures value { Follows (enter_fault folder.old fault.line fault.pin fault.level) folder.old.table result folder.new.table }
     ensures circuit { folder.new.circuit ≡ folder.old.circuit }
 {
-    match enter_under(folder, kind, fault)? {
-        Outcome::Entered { number } => Ok(number),
-        Outcome::Searched { .. } | Outcome::Covered { .. } => unreachable!(),
+    match enter_under(folder, kind, fault) {
+        Ok(Outcome::Entered { number }) => Ok(number),
+        Ok(Outcome::Searched { .. } | Outcome::Covered { .. }) => unreachable!(),
+        Err(refusal) => Err(refusal),
     }
 }

@@ -2,22 +2,22 @@ use Rattle.std.proofs.Common.{◌≡◌, ℕ, suc, ◌∷◌, ap, ◌∙◌, ari
 use Rattle.std.proofs.lemmas.Result.{err_from_is_err_and}
 use Rattle.reader.specs.Gates.{pending_of, going_on}
 use Rattle.reader.proofs.Steps.{carried, leads_from, refuses_from}
-use Rattle.reader.proofs.parser.Parser.+gate.Goals as goal
+use Rattle.reader.proofs.parser.Parser.+gate_operands.Goals as goal
 
-pub returns-in_err-op-clause-leads : goal.returns-in_err-op-clause-leads
-returns-in_err-op-clause-leads t c =
+pub gate-returns-in_err-op-clause-leads : goal.gate-returns-in_err-op-clause-leads
+gate-returns-in_err-op-clause-leads t c =
     let error = err_from_is_err_and c.from_residual.result c.from_residual.ensures.1 in
     λ name pending room. carried _ _ _ _ _ error.1 error.2 (c.in_err-op.ensures.leads name pending room)
 
-pub returns-in_err-word-clause-leads : goal.returns-in_err-word-clause-leads
-returns-in_err-word-clause-leads t c =
-    let error = err_from_is_err_and c.from_residual-in_err-word.result c.from_residual-in_err-word.ensures.1 in
+pub operands-returns-in_err-word-clause-leads : goal.operands-returns-in_err-word-clause-leads
+operands-returns-in_err-word-clause-leads t c =
+    let error = err_from_is_err_and c.from_residual.result c.from_residual.ensures.1 in
     λ name pending room.
     carried _ _ _ _ _ error.1 error.2
     (refuses_from _ _ _ (c.operands.invariant.leads name pending room) (c.in_err-word.ensures.leads name pending (omega (arith, room, c.operands.invariant.same))))
 
-pub returns-in_err-line-in-Opening-clause-leads : goal.returns-in_err-line-in-Opening-clause-leads
-returns-in_err-line-in-Opening-clause-leads t c =
+pub operands-returns-in_err-line-in-Opening-clause-leads : goal.operands-returns-in_err-line-in-Opening-clause-leads
+operands-returns-in_err-line-in-Opening-clause-leads t c =
     let error = err_from_is_err_and c.from_residual-in_err-line-in-Opening.result c.from_residual-in_err-line-in-Opening.ensures.1 in
     let inner = pending_of c.operands.gate in
     let q = c.gate_part.new.self in
@@ -30,8 +30,8 @@ returns-in_err-line-in-Opening-clause-leads t c =
     ∙ ap (going_on name inner pending q) c.in-Opening.is)
     (c.in_err-line-in-Opening.ensures.leads name (inner ∷ pending) (omega (arith, room, opens, c.operands.invariant.same))))
 
-pub returns-in-Closing-clause-leads : goal.returns-in-Closing-clause-leads
-returns-in-Closing-clause-leads t c =
+pub operands-returns-in-Closing-clause-leads : goal.operands-returns-in-Closing-clause-leads
+operands-returns-in-Closing-clause-leads t c =
     let inner = pending_of c.operands.gate in
     let q = c.gate_part.new.self in
     λ name pending room.
