@@ -68,6 +68,9 @@ impl Entry {
     pub fn is_settled(&self) -> bool
         ensures { result ≡ state_settled self.now.state }
     {
-        !matches!(self.state, State::Open | State::Spent { .. })
+        matches!(
+            self.state,
+            State::Fewest { .. } | State::Redundant { .. } | State::Covered { .. }
+        )
     }
 }

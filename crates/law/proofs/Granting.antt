@@ -1,5 +1,5 @@
 -- What a call that is granted came from.
-use Rattle.std.proofs.Common.{◌≡◌, ℕ, Bool, true, false, cond, not, leb, List, [], ◌∷◌, ◌++◌, length, Some, None, Ok, Err, Option, Result, sym, refl, ap, arith}
+use Rattle.std.proofs.Common.{◌≡◌, ℕ, Bool, true, false, cond, not, leb, List, [], ◌∷◌, ◌++◌, length, Some, Ok, Err, Option, Result, refl, ap, arith}
 use Rattle.std.specs.Option.{ok_or}
 use Rattle.std.specs.Result.{result_map_both}
 use Rattle.refusals.specs.declared.layers.FolderRefusal.{FolderRefusal}
@@ -20,61 +20,52 @@ use Rattle.folder.specs.Searching.{budget_in_range, search_allowed}
 use Rattle.folder.specs.Covering.{fewest_cube}
 use Rattle.law.specs.declared.call.Outcome.{Outcome}
 use Rattle.law.specs.Histories.{answered_as}
-use Rattle.law.proofs.Places.{zero_not_one}
-
--- a refusal is no grant
-pub no_grant : {A E : Type 0} (e : E) (a : A) → ◌≡◌ {A = Result A E} (Err e) (Ok a) → ⊥
-no_grant e a h = let z : ◌≡◌ {A = ℕ} 0 1 = cc in omega arith
-
-pub ok_same : {A E : Type 0} (a b : A) → ◌≡◌ {A = Result A E} (Ok a) (Ok b) → a ≡ b
-ok_same a b h = cc
 
 -- both parts of a chain are granted
 pub both_granted : {A B : Type 0} (d : Result A FolderRefusal) (after : A → Result B FolderRefusal) (b : B) → and_then d after ≡ Ok b → (a : A) × (d ≡ Ok a) × (after a ≡ Ok b)
 both_granted (Ok a) after b h = (a, refl, h)
-both_granted (Err e) after b h = absurd (no_grant e b h)
+both_granted (Err e) after b h = cc
 
 -- an answer under its name
 pub named_granted : {A : Type 0} (name : A → Outcome) (r : Result (Granted A) FolderRefusal) (o : Outcome) (after : List Entry) → answered_as name r ≡ Ok (granted o after)
     → (g : Granted A) × (r ≡ Ok g) × (o ≡ name g.answer) × (after ≡ g.table)
 named_granted name (Ok g) o after h =
-    let same = ok_same (granted (name g.answer) g.table) (granted o after) h in
-    (g, refl, ap (λ (x : Granted Outcome). x.answer) (sym same), ap (λ (x : Granted Outcome). x.table) (sym same))
-named_granted name (Err e) o after h = absurd (no_grant e (granted o after) h)
+    let same : granted o after ≡ granted (name g.answer) g.table = cc in
+    (g, refl, ap (λ (x : Granted Outcome). x.answer) same, ap (λ (x : Granted Outcome). x.table) same)
+named_granted name (Err e) o after h = cc
 
 -- a fault that is entered: the table with one open entry more
 pub entered_granted : (table : List Entry) (made : Result Fault FolderRefusal) (g : Granted ℕ) → entered table made ≡ Ok g
     → (f : Fault) × (g.table ≡ table ++ (opened f ∷ []))
-entered_granted table (Err e) g h = absurd (no_grant e g h)
+entered_granted table (Err e) g h = cc
 entered_granted table (Ok f) g h = (f, go (has_fault table f) (leb 512 (length table)) h)
   where
     go : (a b : Bool) → cond a (Err AlreadyEntered) (cond b (Err FolderFull) (Ok (granted (length table) (table ++ (opened f ∷ []))))) ≡ Ok g → g.table ≡ table ++ (opened f ∷ [])
-    go true b h = absurd (no_grant AlreadyEntered g h)
-    go false true h = absurd (no_grant FolderFull g h)
-    go false false h = ap (λ (x : Granted ℕ). x.table) (sym (ok_same (granted (length table) (table ++ (opened f ∷ []))) g h))
+    go true b h = cc
+    go false true h = cc
+    go false false h = cc
 
 pub found_granted : (o : Option Entry) (e : Entry) → ok_or o NoSuchEntry ≡ Ok e → o ≡ Some e
-found_granted None e h = absurd (zero_not_one cc)
-found_granted (Some x) e h = ap Some (ok_same x e h)
+found_granted o e h = grind arith
 
 -- an entry that may be searched is not settled
 pub allowed_unsettled : (s : State) (budget : ℕ) (u : Unit {0}) → search_allowed s budget ≡ Ok u → state_settled s ≡ false
 allowed_unsettled s budget u h = go (state_settled s) refl h
   where
     go : (b : Bool) → state_settled s ≡ b → cond b (Err EntrySettled) (cond (not (budget_in_range budget)) (Err BudgetOutOfRange) (cond (leb budget (state_count s)) (Err BudgetNotAbove) (Ok tt))) ≡ Ok u → state_settled s ≡ false
-    go true e h = absurd (no_grant EntrySettled u h)
+    go true e h = cc
     go false e h = e
 
 pub answered_is : (K : Kind) (c : Circuit) (f : Fault) (budget places : ℕ) (a : Answer) → answer_in K c f budget places ≡ Ok a → answer K c f budget ≡ a
 answered_is K c f budget places a h = go (row_allowed c places) h
   where
     go : (r : Result (Unit {0}) FolderRefusal) → result_map_both (λ _. answer K c f budget) (λ (e : FolderRefusal). e) r ≡ Ok a → answer K c f budget ≡ a
-    go (Err e) h = absurd (no_grant e a h)
-    go (Ok u) h = ok_same (answer K c f budget) a h
+    go (Err e) h = cc
+    go (Ok u) h = cc
 
 pub fewest_state : (s : State) (q : Cube) → fewest_cube s ≡ Ok q → (tries : ℕ) × (s ≡ Fewest q tries)
-fewest_state Open q h = absurd (zero_not_one cc)
-fewest_state (Spent cube tries) q h = absurd (zero_not_one cc)
-fewest_state (Fewest cube tries) q h = (tries, ap (λ (x : Cube). Fewest x tries) (ok_same cube q h))
-fewest_state (Redundant tries) q h = absurd (zero_not_one cc)
-fewest_state (Covered by) q h = absurd (zero_not_one cc)
+fewest_state Open q h = cc
+fewest_state (Spent cube tries) q h = cc
+fewest_state (Fewest cube tries) q h = (tries, cc)
+fewest_state (Redundant tries) q h = cc
+fewest_state (Covered by) q h = cc

@@ -1,7 +1,6 @@
 -- The law holds after every history.
 use Rattle.std.proofs.Math.Bool.{and-false}
 use Rattle.std.proofs.Common.{◌≡◌, ℕ, Bool, ◌&&◌, List, ◌∷◌, Some, None, Ok, Err, Result, sym, refl, ap, ◌∙◌, subst, true≢false}
-use mathlib.Core.Bool.{false≢true}
 use Rattle.std.proofs.lemmas.Bool.{eq-eqb, ne_eqb}
 use Rattle.std.specs.List.{slice_get}
 use Rattle.refusals.specs.declared.cause.Refusal.{Refusal}
@@ -31,9 +30,8 @@ use Rattle.law.specs.declared.call.Outcome.{Outcome}
 use Rattle.law.specs.declared.call.Outcome.TheVariants as outcome
 use Rattle.law.specs.Histories.{Event, defined, Step, Run, start, next}
 use Rattle.law.specs.Sound.{is_unspent_outcome, searches, SearchedUnspent, IsRedundant, Sound, KeepsLaw}
-use Rattle.law.proofs.Granting.{ok_same, both_granted, named_granted, entered_granted, found_granted, allowed_unsettled, answered_is, fewest_state}
+use Rattle.law.proofs.Granting.{both_granted, named_granted, entered_granted, found_granted, allowed_unsettled, answered_is, fewest_state}
 use Rattle.law.proofs.Keeping.{Known, Kept, kept_first, kept_same, kept_entered, kept_filed, kept_covered}
-use Rattle.law.proofs.Places.{zero_not_one}
 
 module _ (K : Kind) (M : Pairs → Type 0) (l : Lawful K M) (c : Circuit) where
   abbrev event : Call → ℕ → Result Outcome Refusal → Event
@@ -58,7 +56,7 @@ module _ (K : Kind) (M : Pairs → Type 0) (l : Lawful K M) (c : Circuit) where
         let (x, found, second) = both_granted (entry_at before number) _ g is in
         let (u, allowed, third) = both_granted (search_allowed x.state budget) _ g second in
         let (a, answered, last) = both_granted (answer_in K c x.fault budget places) _ g third in
-        let filed-as : g ≡ file_answer before number x a = sym (ok_same (file_answer before number x a) g last) in
+        let filed-as : g ≡ file_answer before number x a = cc in
         let named-as : o ≡ outcome.Searched a = named ∙ ap (λ (y : Granted Answer). outcome.Searched y.answer) filed-as in
         subst (λ (t : List Entry). Kept K c (event (Search number budget) places (Ok o) ∷ history) t) (sym (left ∙ ap (λ (y : Granted Answer). y.table) filed-as))
         (kept_filed K c history (event (Search number budget) places (Ok o)) before k number x (found_granted _ x found) (allowed_unsettled x.state budget u allowed) a
@@ -73,7 +71,7 @@ module _ (K : Kind) (M : Pairs → Type 0) (l : Lawful K M) (c : Circuit) where
         let (x, found, second) = both_granted (entry_at before number) _ g is in
         let (q, fewest, third) = both_granted (fewest_cube x.state) _ g second in
         let (u, allowed, last) = both_granted (simulation_allowed c q places) _ g third in
-        let marked-as : g ≡ mark_covered K c before number q = sym (ok_same (mark_covered K c before number q) g last) in
+        let marked-as : g ≡ mark_covered K c before number q = cc in
         let (tries, state) = fewest_state x.state q fewest in
         subst (λ (t : List Entry). Kept K c (event (Cover number) places (Ok o) ∷ history) t) (sym (left ∙ ap (λ (y : Granted ℕ). y.table) marked-as))
         (kept_covered K c history (event (Cover number) places (Ok o)) before k M l number x q tries (found_granted _ x found) state (λ n. refl))
@@ -105,24 +103,24 @@ module _ (K : Kind) (M : Pairs → Type 0) (l : Lawful K M) (c : Circuit) where
   -- what a kept table says, in the words of the law
 
   cube_known : (history : List Event) (table : List Entry) (n : ℕ) (f : Fault) (s : State) → Known K c history table n f s → (q : Cube) → state_cube s ≡ Some q → Test c f q
-  cube_known history table n f Open k q e = absurd (zero_not_one cc)
-  cube_known history table n f (Spent None tries) k q e = absurd (zero_not_one cc)
+  cube_known history table n f Open k q e = cc
+  cube_known history table n f (Spent None tries) k q e = cc
   cube_known history table n f (Spent (Some p) tries) k q e = let same : p ≡ q = cc in subst (λ (x : Cube). Test c f x) same k.1
   cube_known history table n f (Fewest p tries) k q e = let same : p ≡ q = cc in subst (λ (x : Cube). Test c f x) same k.0
-  cube_known history table n f (Redundant tries) k q e = absurd (zero_not_one cc)
-  cube_known history table n f (Covered m) k q e = absurd (zero_not_one cc)
+  cube_known history table n f (Redundant tries) k q e = cc
+  cube_known history table n f (Covered m) k q e = cc
 
   -- a fault with a test is detected by some vector
   test_detects : (f : Fault) (q : Cube) → Test c f q → Undetectable c f → ⊥
   test_detects f q test none = true≢false (sym (test q.level (λ i e. refl)) ∙ none q.level)
 
   searched_redundant : (history : List Event) (table : List Entry) (n : ℕ) (f : Fault) (s : State) → Known K c history table n f s → SearchedUnspent history n → Undetectable c f → IsRedundant s
-  searched_redundant history table n f Open k h u = absurd (false≢true (sym k ∙ h))
-  searched_redundant history table n f (Spent None tries) k h u = absurd (false≢true (sym k ∙ h))
-  searched_redundant history table n f (Spent (Some q) tries) k h u = absurd (false≢true (sym k.0 ∙ h))
+  searched_redundant history table n f Open k h u = cc
+  searched_redundant history table n f (Spent None tries) k h u = cc
+  searched_redundant history table n f (Spent (Some q) tries) k h u = cc
   searched_redundant history table n f (Fewest q tries) k h u = absurd (test_detects f q k.0 u)
   searched_redundant history table n f (Redundant tries) k h u = (tries, refl)
-  searched_redundant history table n f (Covered m) k h u = absurd (false≢true (sym k.0 ∙ h))
+  searched_redundant history table n f (Covered m) k h u = cc
 
   module _ (history : List Event) (table : List Entry) (k : Kept K c history table) where
     -- what is known of an entry, at its state

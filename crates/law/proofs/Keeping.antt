@@ -2,7 +2,8 @@
 use Rattle.std.proofs.Common.{◌≡◌, ℕ, ◌≤◌, Bool, true, false, cond, not, ◌&&◌, ◌||◌, ◌⊎◌, List, [], ◌∷◌, ◌++◌, map, length, set, Some, None, sym, refl, ap, ◌∙◌, subst, inl, inr, true≢false, arith}
 use Rattle.std.proofs.lemmas.List.{length-set, length-map, length_push}
 use Rattle.std.proofs.lemmas.Bool.{cases_eq, and_parts, not-true}
-use Rattle.std.proofs.lemmas.Option.{slice_get_within}
+use Rattle.std.proofs.lemmas.Option.{slice_get-map, slice_get_within}
+use Rattle.std.specs.Option.{option_map}
 use Rattle.std.specs.List.{slice_get, list_any}
 use Rattle.values.specs.Pairs.{Pairs}
 use Rattle.values.specs.Kind.{Kind, Lawful}
@@ -21,7 +22,7 @@ use Rattle.folder.specs.Searching.{filed}
 use Rattle.folder.specs.Covering.{is_covered, marked}
 use Rattle.law.specs.Histories.{Event}
 use Rattle.law.specs.Sound.{is_unspent, is_unspent_search, SearchedUnspent}
-use Rattle.law.proofs.Places.{zero_not_one, nth_push_old, nth_push_new, nth_set_same, nth_set_other, nth_map_from, nth_map_to}
+use Rattle.law.proofs.Places.{nth_push_old, nth_push_new, nth_set_same, nth_set_other, nth_map_from}
 
 module _ (K : Kind) (c : Circuit) where
   -- no granted search of that entry was unspent
@@ -46,16 +47,16 @@ module _ (K : Kind) (c : Circuit) where
     pub past : (n : ℕ) → length table ≤ n → Unsearched history n
 
   pub kept_first : Kept [] []
-  kept_first = record { entries = λ n e h. absurd (zero_not_one cc); past = λ n h. refl }
+  kept_first = record { entries = λ n e h. cc; past = λ n h. refl }
 
   -- an entry that is not settled was not searched to the end
   unsettled_unsearched : (history : List Event) (table : List Entry) (n : ℕ) (f : Fault) (s : State) → state_settled s ≡ false → Known history table n f s → Unsearched history n
   unsettled_unsearched history table n f Open e k = k
   unsettled_unsearched history table n f (Spent None tries) e k = k
   unsettled_unsearched history table n f (Spent (Some q) tries) e k = k.0
-  unsettled_unsearched history table n f (Fewest q tries) e k = absurd (true≢false e)
-  unsettled_unsearched history table n f (Redundant tries) e k = absurd (true≢false e)
-  unsettled_unsearched history table n f (Covered m) e k = absurd (true≢false e)
+  unsettled_unsearched history table n f (Fewest q tries) e k = cc
+  unsettled_unsearched history table n f (Redundant tries) e k = cc
+  unsettled_unsearched history table n f (Covered m) e k = cc
 
   -- what is known stays known where the calls say the same of the entry, and entries that back others stay
   known_moves : (history later : List Event) (table after : List Entry) (n : ℕ) (f : Fault) (s : State)
@@ -157,14 +158,14 @@ module _ (K : Kind) (c : Circuit) where
       stays d p t is = ap (λ (s : State). cond (not (state_settled s) && detected K c (Some d.fault) q) (with_state d (Covered number)) d) is
 
       backed_marked : (g : Fault) (m : ℕ) → Backed table g m → Backed (map mark table) g m
-      backed_marked g m (d, p, t, at, is, test) = (d, p, t, nth_map_to mark table m d at ∙ ap Some (stays d p t is), is, test)
+      backed_marked g m (d, p, t, at, is, test) = (d, p, t, slice_get-map mark table m ∙ ap (option_map mark) at ∙ ap Some (stays d p t is), is, test)
 
       known_marked : (n : ℕ) (d : Entry) → slice_get table n ≡ Some d → (b : Bool) → is_covered K c q d ≡ b
           → Known (event ∷ history) (map mark table) n (cond b (with_state d (Covered number)) d).fault (cond b (with_state d (Covered number)) d).state
       known_marked n d at true e =
           let parts = and_parts (not (state_settled d.state)) (detected K c (Some d.fault) q) e in (
             idle_same n (idle n) ∙ unsettled_unsearched history table n d.fault d.state (not-true (state_settled d.state) parts.0) (k.entries n d at),
-            (x, q, tries, nth_map_to mark table number x found ∙ ap Some (stays x q tries fewest), fewest, λ v fills. shown_are_tests K M l c (Some d.fault) q v parts.1 fills),
+            (x, q, tries, slice_get-map mark table number ∙ ap (option_map mark) found ∙ ap Some (stays x q tries fewest), fewest, λ v fills. shown_are_tests K M l c (Some d.fault) q v parts.1 fills),
           )
       known_marked n d at false e =
           known_moves history (event ∷ history) table (map mark table) n d.fault d.state (idle_same n (idle n)) (backed_marked d.fault) (k.entries n d at)

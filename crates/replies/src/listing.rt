@@ -12,10 +12,10 @@ use std::alloc::Global;
 fn is_tested(state: State) -> bool
     ensures { result ≡ is_tested state }
 {
-    match state {
-        State::Fewest { .. } | State::Covered { .. } | State::Spent { cube: Some(_), .. } => true,
-        State::Open | State::Redundant { .. } | State::Spent { cube: None, .. } => false,
-    }
+    matches!(
+        state,
+        State::Fewest { .. } | State::Covered { .. } | State::Spent { cube: Some(_), .. }
+    )
 }
 
 // The line of each entry, and how many faults are known to be detected, of all.

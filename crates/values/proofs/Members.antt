@@ -1,6 +1,6 @@
 -- What operands can make is what they make, and nothing else is.
-use Rattle.std.proofs.Common.{◌≡◌, Bool, true, false, cond, ◌⊎◌, refl, sym, subst, inl, inr}
-use Rattle.std.proofs.lemmas.Bool.{false≢true, or_cases}
+use Rattle.std.proofs.Common.{◌≡◌, Bool, true, false, cond, ◌⊎◌, sym, subst, inl, inr, arith}
+use Rattle.std.proofs.lemmas.Bool.{or_cases}
 use Rattle.values.specs.Pairs.{Pair, Pairs, pair, has, ◌∈◌, only, no_pair}
 use Rattle.values.specs.Made.{◌∪◌, union_over, made_by_one, made_by_two, MadeExactly}
 use Rattle.values.specs.Laws.Members.{has_union, made_one_has, made_two_has}
@@ -8,15 +8,8 @@ use Rattle.values.specs.Laws.Members.{has_union, made_one_has, made_two_has}
 from_union : (s t : Pairs) (p : Pair) → p ∈ s ∪ t → (p ∈ s) ⊎ (p ∈ t)
 from_union s t p h = or_cases (has s p.good p.faulty) (has t p.good p.faulty) (rw (has_union s t p.good p.faulty) at h)
 
-has_none : (g f : Bool) → has no_pair g f ≡ true → ⊥
-has_none false false h = false≢true h
-has_none false true h = false≢true h
-has_none true false h = false≢true h
-has_none true true h = false≢true h
-
 from_cond : (b : Bool) (s : Pairs) (p : Pair) → p ∈ cond b s no_pair → (b ≡ true) × (p ∈ s)
-from_cond true s p h = (refl, h)
-from_cond false s p h = absurd (has_none p.good p.faulty h)
+from_cond b s p h = grind arith
 
 union_from : (s : Pairs) (f : Pair → Pairs) (q : Pair) → q ∈ union_over s f → (p : Pair) × (p ∈ s) × (q ∈ f p)
 union_from s f q h = last (from_union _ _ q h)
@@ -44,25 +37,7 @@ union_from s f q h = last (from_union _ _ q h)
 
 -- the member of a set of one pair
 pub only_is : (p : Pair) (g f : Bool) → p ∈ only g f → p ≡ pair g f
-only_is p g f = is g f p.good p.faulty
-  where
-    is : (g f a b : Bool) → has (only g f) a b ≡ true → pair a b ≡ pair g f
-    is false false false false h = refl
-    is false false false true h = absurd (false≢true h)
-    is false false true false h = absurd (false≢true h)
-    is false false true true h = absurd (false≢true h)
-    is false true false false h = absurd (false≢true h)
-    is false true false true h = refl
-    is false true true false h = absurd (false≢true h)
-    is false true true true h = absurd (false≢true h)
-    is true false false false h = absurd (false≢true h)
-    is true false false true h = absurd (false≢true h)
-    is true false true false h = refl
-    is true false true true h = absurd (false≢true h)
-    is true true false false h = absurd (false≢true h)
-    is true true false true h = absurd (false≢true h)
-    is true true true false h = absurd (false≢true h)
-    is true true true true h = refl
+only_is p g f h = grind arith
 
 made_one_from : (f : Pair → Pair) (s : Pairs) (r : Pair) → r ∈ made_by_one f s → (p : Pair) × (p ∈ s) × (r ≡ f p)
 made_one_from f s r h =

@@ -1,12 +1,12 @@
 -- What lasts through a visit: its best cube is a cube of the circuit's inputs that shows, and its tries stay within the budget.
 use Rattle.std.proofs.Common.{◌≡◌, ℕ, zero, suc, ◌+◌, ◌-◌, ◌*◌, ◌/◌, ◌%◌, ◌^◌, ◌<◌, ◌≤◌, Bool, true, false, cond, not, ◌&&◌, ltb, ◌⊎◌, Some, None, Option, sym, refl, ap, ◌∙◌, subst, inl, inr, zero-add, arith, pow_mono}
+use Rattle.std.proofs.lemmas.Nat.{pow-add}
 use Rattle.std.proofs.lemmas.Nat.Bits.{bit_at_cat_low, bit_at_cat_high, bit_at_above}
 use Rattle.std.proofs.lemmas.Bool.{cases_eq, cases_lt, ltb-true}
 use Rattle.faults.specs.Cubes.{Cube, Within, nothing_driven}
 use Rattle.simulator.specs.declared.verdict.Verdict.{Verdict}
 use Rattle.simulator.specs.declared.verdict.Verdict.TheVariants.{Shows, Still, Unsure}
 use Rattle.visit.specs.Visiting.{Progress, fewer, drive, tried, met, below, at_start, visited}
-use Rattle.visit.proofs.Cubes.{double}
 
 -- a cube of the k lowest inputs, with a level only where it drives
 pub record Shape (k : ℕ) (q : Cube) : Type 0 where
@@ -18,7 +18,7 @@ shape_mono : (k j : ℕ) (q : Cube) → k ≤ j → Shape k q → Shape j q
 shape_mono k j q l h = let p = pow_mono l in record { driven_low = omega (arith, h.driven_low); level_low = omega (arith, h.level_low); proper = h.proper }
 
 shape_drive : (k v : ℕ) (q : Cube) → v ≤ 1 → Shape k q → Shape (k + 1) (drive q k v)
-shape_drive k v q one h = record { driven_low = omega (arith, double k, h.driven_low); level_low = small; proper = λ i e. proper' i e (cases_lt i k) (cases_eq i k) }
+shape_drive k v q one h = record { driven_low = omega (arith, pow-add 2 k 1, h.driven_low); level_low = small; proper = λ i e. proper' i e (cases_lt i k) (cases_eq i k) }
   where
     times : (v : ℕ) → v ≤ 1 → v * 2 ^ k ≤ 2 ^ k
     times zero l = omega arith
@@ -26,7 +26,7 @@ shape_drive k v q one h = record { driven_low = omega (arith, double k, h.driven
     times (suc (suc v)) l = absurd (omega arith)
 
     small : q.level + v * 2 ^ k < 2 ^ (k + 1)
-    small = omega (arith, double k, h.level_low, times v one)
+    small = omega (arith, pow-add 2 k 1, h.level_low, times v one)
 
     -- the bits below the place that is added
     low : (word w place i : ℕ) → place ≡ w * 2 ^ k → i < k → (word + place) / 2 ^ i % 2 ≡ word / 2 ^ i % 2
