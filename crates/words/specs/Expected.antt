@@ -8,7 +8,7 @@ use Rattle.words.specs.declared.expect.Mark.{Mark}
 use Rattle.words.specs.declared.expect.Mark.TheVariants as mark
 use Rattle.words.specs.declared.lexer.Lexer.{Lexer}
 use Rattle.words.specs.Left.{left, onward}
-use Rattle.words.specs.Lexemes.{Lexeme, Opening, Closing, Word, LineEnd, TextEnd, Forbidden}
+use Rattle.words.specs.Lexemes.{Lexeme, Opening, Closing, Word, LineEnd, TextEnd, Forbidden, end_of}
 use Rattle.words.specs.Spelling.{name_shape}
 
 -- the refusal of a lexeme that cannot stand where it stands, if no more than that is wrong with its place
@@ -63,4 +63,5 @@ pub record LineEnded (before : Lexer) (r : Result ℕ Refusal) (after : Lexer) :
   pub end : Lexeme
   pub taken : left before ≡ end ∷ onward end (left after)
   pub same : after.text ≡ before.text
+  pub place : after.place ≡ end_of end
   pub answer : MatchResult r (λ n. after_line end ≡ Some n) (λ e. (after_line end ≡ None) × (e ≡ unexpected end))
