@@ -108,55 +108,30 @@ name_found k n (Some line) = Go (fault_pin k line)
 module _ (names : List (Option (List ℕ))) (chosen : Option Kind) where
   -- a word: where a number is due it must be one, elsewhere it must have the shape of a name
   abbrev pub word_step : Due → List ℕ → ℕ → Step
-  word_step line_begin word n = cond (name_shape word) (misplaced n) (malformed n)
   word_step job_head word n = cond (name_shape word) (head_found chosen n (head_named word)) (malformed n)
   word_step kind_word word n = cond (name_shape word) (kind_found n (kind_named word)) (malformed n)
   word_step (fault_name k) word n = cond (name_shape word) (name_found k n (line_named names word)) (malformed n)
   word_step (fault_pin k line) word n = cond (number_shape word) (Go (fault_level k line (number_value word))) (malformed n)
   word_step (fault_level k line pin) word n =
       cond (number_shape word) (Go (line_close (job.Fault k (record { line = line; pin = pin; level = number_value word })))) (malformed n)
-  word_step (line_close job) word n = cond (name_shape word) (misplaced n) (malformed n)
-  word_step (line_end job) word n = cond (name_shape word) (misplaced n) (malformed n)
+  word_step due word n = cond (name_shape word) (misplaced n) (malformed n)
 
   abbrev pub opening_step : Due → ℕ → Step
   opening_step line_begin n = Go job_head
-  opening_step job_head n = misplaced n
-  opening_step kind_word n = misplaced n
-  opening_step (fault_name k) n = misplaced n
-  opening_step (fault_pin k line) n = misplaced n
-  opening_step (fault_level k line pin) n = misplaced n
-  opening_step (line_close job) n = misplaced n
-  opening_step (line_end job) n = misplaced n
+  opening_step due n = misplaced n
 
   abbrev pub closing_step : Due → ℕ → Step
-  closing_step line_begin n = misplaced n
-  closing_step job_head n = misplaced n
-  closing_step kind_word n = misplaced n
-  closing_step (fault_name k) n = misplaced n
-  closing_step (fault_pin k line) n = misplaced n
-  closing_step (fault_level k line pin) n = misplaced n
   closing_step (line_close job) n = Go (line_end job)
-  closing_step (line_end job) n = misplaced n
+  closing_step due n = misplaced n
 
   abbrev pub feed_step : Due → ℕ → Step
-  feed_step line_begin n = misplaced n
-  feed_step job_head n = misplaced n
-  feed_step kind_word n = misplaced n
-  feed_step (fault_name k) n = misplaced n
-  feed_step (fault_pin k line) n = misplaced n
-  feed_step (fault_level k line pin) n = misplaced n
-  feed_step (line_close job) n = misplaced n
   feed_step (line_end job) n = Stop (Asked job (n + 1))
+  feed_step due n = misplaced n
 
   abbrev pub end_step : Due → ℕ → Step
   end_step line_begin n = Stop NoMore
-  end_step job_head n = misplaced n
-  end_step kind_word n = misplaced n
-  end_step (fault_name k) n = misplaced n
-  end_step (fault_pin k line) n = misplaced n
-  end_step (fault_level k line pin) n = misplaced n
-  end_step (line_close job) n = misplaced n
   end_step (line_end job) n = Stop (Asked job n)
+  end_step due n = misplaced n
 
   abbrev pub step : Due → Lexeme → Step
   step due (Forbidden n) = forbidden n

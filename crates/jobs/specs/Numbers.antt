@@ -5,7 +5,7 @@ use Rattle.refusals.specs.declared.cause.Refusal.TheVariants as refusal
 use Rattle.refusals.specs.declared.layers.TextRefusal.TheVariants.{MalformedWord}
 use Rattle.words.specs.Bytes.{digit}
 use Rattle.words.specs.Expected.{unexpected}
-use Rattle.words.specs.Lexemes.{Lexeme, Opening, Closing, Word, LineEnd, TextEnd, Forbidden}
+use Rattle.words.specs.Lexemes.{Lexeme, Word}
 use Rattle.std.specs.List.{list_all}
 
 -- there is a digit, and no zero stands in front of another
@@ -22,27 +22,15 @@ abbrev pub number_value : List ℕ → ℕ
 number_value word = fold (λ (value byte : ℕ). value * 10 + (byte - 48)) 0 word
 
 abbrev pub is_number : Lexeme → Bool
-is_number (Opening n) = false
-is_number (Closing n) = false
 is_number (Word word n) = number_shape word
-is_number (LineEnd n) = false
-is_number (TextEnd n) = false
-is_number (Forbidden n) = false
+is_number t = false
 
 -- the refusal of a lexeme where a number is due
 abbrev pub not_number : Lexeme → Refusal
-not_number (Opening n) = unexpected (Opening n)
-not_number (Closing n) = unexpected (Closing n)
 not_number (Word word n) = refusal.Text (MalformedWord n)
-not_number (LineEnd n) = unexpected (LineEnd n)
-not_number (TextEnd n) = unexpected (TextEnd n)
-not_number (Forbidden n) = unexpected (Forbidden n)
+not_number t = unexpected t
 
 -- the lexeme is a number of that value
 abbrev pub NumberWord : Lexeme → ℕ → Type 0
 NumberWord (Word word n) value = (number_shape word ≡ true) × (value ≡ number_value word)
-NumberWord (Opening n) value = ⊥
-NumberWord (Closing n) value = ⊥
-NumberWord (LineEnd n) value = ⊥
-NumberWord (TextEnd n) value = ⊥
-NumberWord (Forbidden n) value = ⊥
+NumberWord t value = ⊥

@@ -2,7 +2,7 @@
 use Rattle.std.proofs.Common.{◌≡◌, ℕ, suc, ◌+◌, ◌<◌, ◌≤◌, true, false, List, [], ◌∷◌, ◌++◌, map, length, is_some, Some, None, codes, Option, sym, refl, ap, ◌∙◌, subst, append_assoc, append-nil, arith}
 use Rattle.std.proofs.lemmas.List.{length_push, map_push, length-map}
 use Rattle.std.proofs.lemmas.Bool.{and_parts, cond-false, lt-leb, le-ltb, ne_eqb, not-true}
-use Rattle.words.specs.Lexemes.{Lexeme, Opening, Closing, Word, LineEnd, TextEnd, Forbidden}
+use Rattle.words.specs.Lexemes.{Lexeme, Closing, LineEnd}
 use Rattle.std.specs.List.{list_all}
 use Rattle.words.specs.Spelling.{name_shape}
 use Rattle.circuit.specs.Ops.{fewest_operands, most_operands, op_word}
@@ -149,11 +149,7 @@ source_leads s rules =
 ends : (c : Circuit) (end : Lexeme) (after : List Lexeme) (place : ℕ) → after_line end ≡ Some place
     → run outputs_end c (end ∷ after) ≡ Granted c place
 ends c (LineEnd n) after place e = cc
-ends c (TextEnd n) after place e = cc
-ends c (Opening n) after place e = cc
-ends c (Closing n) after place e = cc
-ends c (Word w n) after place e = cc
-ends c (Forbidden n) after place e = cc
+ends c end after place e = cc
 
 pub complete : (text : List ℕ) (c : Circuit) (place : ℕ) → Describes text c place → reading text ≡ Granted c place
 complete text c place d =

@@ -7,7 +7,7 @@ use Rattle.std.specs.List.{list_all}
 use Rattle.std.proofs.lemmas.List.Folds.{list_all-append}
 use Rattle.words.specs.Spelling.{name_shape}
 use Rattle.circuit.specs.declared.op.Op.{Op}
-use Rattle.circuit.specs.declared.op.Op.TheVariants.{And, Nand, Or, Nor, Xor, Xnor, Not, Buf}
+use Rattle.circuit.specs.declared.op.Op.TheVariants.{And}
 use Rattle.circuit.specs.Ops.{op_named, op_word}
 use Rattle.circuit.specs.Model.{Gate, Circuit, line_count, names, line_named}
 use Rattle.circuit.specs.Lawful.{between}
@@ -18,23 +18,11 @@ use Rattle.reader.proofs.Rules.{line_named_push, line_names_push}
 -- The words of operators are well shaped, and name them.
 pub op_shaped : (op : Op) → name_shape (op_word op) ≡ true
 op_shaped And = refl
-op_shaped Nand = refl
-op_shaped Or = refl
-op_shaped Nor = refl
-op_shaped Xor = refl
-op_shaped Xnor = refl
-op_shaped Not = refl
-op_shaped Buf = refl
+op_shaped op = refl
 
 pub op_known : (op : Op) → op_named (op_word op) ≡ Some op
 op_known And = refl
-op_known Nand = refl
-op_known Or = refl
-op_known Nor = refl
-op_known Xor = refl
-op_known Xnor = refl
-op_known Not = refl
-op_known Buf = refl
+op_known op = refl
 
 -- Names
 

@@ -315,12 +315,7 @@ module _ (d : Circuit) (place : ℕ) where
       let unfull = avoids (full gate) _ _ ts e in
       operand_named name gate pending c w n ts later shape unfull.0 (line_named (names c) w) refl unfull.1
   word_sound output_name c w n ts later shape e = output_more c n ts later w shape (line_named (names c) w) refl e
-  word_sound inputs_line c w n ts later shape e = dead e
-  word_sound line_end c w n ts later shape e = dead e
-  word_sound next_line c w n ts later shape e = dead e
-  word_sound (gate_begin name) c w n ts later shape e = dead e
-  word_sound (gate_line_close name) c w n ts later shape e = dead e
-  word_sound outputs_end c w n ts later shape e = dead e
+  word_sound due c w n ts later shape e = dead e
 
   opening_sound : (due : Due) (c : Circuit) (n : ℕ) (ts : List Lexeme) → Later ts → open_brackets due < 8
       → resumed (opening_step due c n) ts ≡ Granted d place → Left d place due c (Opening n ∷ ts)
@@ -333,15 +328,7 @@ module _ (d : Circuit) (place : ℕ) where
       let unfull = avoids (full gate) _ _ ts e in
       let more = later (operator name (gate ∷ pending)) c unfull.1 in
       gate_more (OutsideLeft d place name pending) (length pending) gate c unfull.0 n ts (omega (arith, shallow)) more.0 more.1
-  opening_sound inputs_head c n ts later shallow e = dead e
-  opening_sound input_name c n ts later shallow e = dead e
-  opening_sound line_end c n ts later shallow e = dead e
-  opening_sound next_head c n ts later shallow e = dead e
-  opening_sound gate_name c n ts later shallow e = dead e
-  opening_sound (operator name pending) c n ts later shallow e = dead e
-  opening_sound (gate_line_close name) c n ts later shallow e = dead e
-  opening_sound output_name c n ts later shallow e = dead e
-  opening_sound outputs_end c n ts later shallow e = dead e
+  opening_sound due c n ts later shallow e = dead e
 
   closing_sound : (due : Due) (c : Circuit) (n : ℕ) (ts : List Lexeme) → Later ts
       → resumed (closing_step due c n) ts ≡ Granted d place → Left d place due c (Closing n ∷ ts)
@@ -352,47 +339,18 @@ module _ (d : Circuit) (place : ℕ) where
       let more = later line_end (with_name c name) e in
       (more.0, (λ rest ms p. placed_closing n (more.1 rest ms p)), more.2)
   closing_sound output_name c n ts later e = outputs_close c n ts later e
-  closing_sound inputs_line c n ts later e = dead e
-  closing_sound inputs_head c n ts later e = dead e
-  closing_sound line_end c n ts later e = dead e
-  closing_sound next_line c n ts later e = dead e
-  closing_sound next_head c n ts later e = dead e
-  closing_sound gate_name c n ts later e = dead e
-  closing_sound (gate_begin name) c n ts later e = dead e
-  closing_sound (operator name pending) c n ts later e = dead e
-  closing_sound outputs_end c n ts later e = dead e
+  closing_sound due c n ts later e = dead e
 
   feed_sound : (due : Due) (c : Circuit) (n : ℕ) (ts : List Lexeme) → Later ts
       → resumed (feed_step due c n) ts ≡ Granted d place → Left d place due c (LineEnd n ∷ ts)
   feed_sound line_end c n ts later e = (ts, (λ rest ms p. placed_feed n p), later next_line c e)
   feed_sound outputs_end c n ts later e = record { end = LineEnd n; after = ts; whole = refl; ended = cc; circuit = cc }
-  feed_sound inputs_line c n ts later e = dead e
-  feed_sound inputs_head c n ts later e = dead e
-  feed_sound input_name c n ts later e = dead e
-  feed_sound next_line c n ts later e = dead e
-  feed_sound next_head c n ts later e = dead e
-  feed_sound gate_name c n ts later e = dead e
-  feed_sound (gate_begin name) c n ts later e = dead e
-  feed_sound (operator name pending) c n ts later e = dead e
-  feed_sound (operand name gate pending) c n ts later e = dead e
-  feed_sound (gate_line_close name) c n ts later e = dead e
-  feed_sound output_name c n ts later e = dead e
+  feed_sound due c n ts later e = dead e
 
   end_sound : (due : Due) (c : Circuit) (n : ℕ) (ts : List Lexeme)
       → resumed (end_step due c n) ts ≡ Granted d place → Left d place due c (TextEnd n ∷ ts)
   end_sound outputs_end c n ts e = record { end = TextEnd n; after = ts; whole = refl; ended = cc; circuit = cc }
-  end_sound inputs_line c n ts e = dead e
-  end_sound inputs_head c n ts e = dead e
-  end_sound input_name c n ts e = dead e
-  end_sound line_end c n ts e = dead e
-  end_sound next_line c n ts e = dead e
-  end_sound next_head c n ts e = dead e
-  end_sound gate_name c n ts e = dead e
-  end_sound (gate_begin name) c n ts e = dead e
-  end_sound (operator name pending) c n ts e = dead e
-  end_sound (operand name gate pending) c n ts e = dead e
-  end_sound (gate_line_close name) c n ts e = dead e
-  end_sound output_name c n ts e = dead e
+  end_sound due c n ts e = dead e
 
   step_sound : (t : Lexeme) (due : Due) (c : Circuit) (ts : List Lexeme) → Later ts
       → resumed (step due c t) ts ≡ Granted d place → Left d place due c (t ∷ ts)

@@ -6,7 +6,7 @@ use Rattle.std.proofs.lemmas.Bool.{eqb-true, cond_both}
 use Rattle.words.specs.declared.bytes.ByteClass.{ByteClass}
 use Rattle.words.specs.declared.bytes.ByteClass.TheVariants as class_of
 use Rattle.words.specs.Bytes.{class}
-use Rattle.words.specs.Lexemes.{Lexeme, Opening, Closing, Word, LineEnd, TextEnd, Forbidden, prefixed, begun, lexemes, end_of}
+use Rattle.words.specs.Lexemes.{Lexeme, Word, prefixed, begun, lexemes, end_of}
 
 abbrev pub EndsBy : ℕ → Lexeme → Type 0
 EndsBy end t = end_of t ≤ end
@@ -14,23 +14,16 @@ EndsBy end t = end_of t ≤ end
 -- a byte more of a word
 prefixed_ends : (b n end : ℕ) (ts : List Lexeme) → n < end → All (EndsBy end) ts → All (EndsBy end) (prefixed b n ts)
 prefixed_ends b n end [] lt all = (omega arith, tt)
-prefixed_ends b n end (Opening m ∷ ts) lt all = (omega arith, all)
-prefixed_ends b n end (Closing m ∷ ts) lt all = (omega arith, all)
-prefixed_ends b n end (LineEnd m ∷ ts) lt all = (omega arith, all)
-prefixed_ends b n end (TextEnd m ∷ ts) lt all = (omega arith, all)
-prefixed_ends b n end (Forbidden m ∷ ts) lt all = (omega arith, all)
 prefixed_ends b n end (Word bytes m ∷ ts) lt all =
     cond_both (eqb m (n + 1)) (Word (b ∷ bytes) n ∷ ts) (Word (b ∷ []) n ∷ (Word bytes m ∷ ts)) (All (EndsBy end))
     (λ e. (let next : m ≡ n + 1 = eqb-true m (n + 1) e in omega (arith, all.0), all.1))
     (λ e. (omega arith, all))
+prefixed_ends b n end (t ∷ ts) lt all = (omega arith, all)
 
 begun_ends : (c : ByteClass) (b n end : ℕ) (ts : List Lexeme) → n < end → All (EndsBy end) ts → All (EndsBy end) (begun c b n ts)
 begun_ends class_of.InWord b n end ts lt all = prefixed_ends b n end ts lt all
-begun_ends class_of.Opening b n end ts lt all = (omega arith, all)
-begun_ends class_of.Closing b n end ts lt all = (omega arith, all)
 begun_ends class_of.Space b n end ts lt all = all
-begun_ends class_of.LineFeed b n end ts lt all = (omega arith, all)
-begun_ends class_of.Forbidden b n end ts lt all = (omega arith, all)
+begun_ends c b n end ts lt all = (omega arith, all)
 
 pub lexemes_end : (n : ℕ) (bs : List ℕ) → All (EndsBy (n + length bs)) (lexemes n bs)
 lexemes_end n [] = (omega arith, tt)

@@ -222,7 +222,6 @@ kept_operator_found end c name pending n (Some op) k = (k.0, record { within = o
 
 -- One step keeps what is known, by the kind of lexeme.
 kept_word : (due : Due) (c : Circuit) (word : List ℕ) (n end : ℕ) → Kept due c → After end (word_step due c word n)
-kept_word inputs_line c word n end k = tt
 kept_word inputs_head c word n end k =
     cond_both (bytes_eq word (codes "inputs")) _ _ (After end) (λ _. k)
     (λ _. cond_both (is_head word) _ _ (After end) (λ _. tt) (λ _. tt))
@@ -230,52 +229,32 @@ kept_word input_name c word n end k =
     unless end (taken c word) _ _ tt
     (λ free. unless end (leb 64 (length c.inputs)) _ _ tt
     (λ room. kept_input c word k free (leb-false 64 (length c.inputs) room)))
-kept_word line_end c word n end k = tt
-kept_word next_line c word n end k = tt
 kept_word next_head c word n end k =
     cond_both (bytes_eq word (codes "gate")) _ _ (After end) (λ _. k)
     (λ _. cond_both (bytes_eq word (codes "outputs")) _ _ (After end) (λ _. no_outputs_yet c k)
     (λ _. cond_both (is_head word) _ _ (After end) (λ _. tt) (λ _. tt)))
 kept_word gate_name c word n end k = unless end (taken c word) _ _ tt (λ free. record { so_far = k; free = free })
-kept_word (gate_begin name) c word n end k = tt
 kept_word (operator name pending) c word n end k = kept_operator_found end c name pending n (op_named word) k
 kept_word (operand name inner pending) c word n end k =
     unless end (full inner) _ _ tt
     (λ room. kept_operand_found end c name inner pending n (line_named (names c) word) k room (found_line c word))
-kept_word (gate_line_close name) c word n end k = tt
 kept_word output_name c word n end k = kept_output_found end c n (line_named (names c) word) k (found_line c word)
-kept_word outputs_end c word n end k = tt
+kept_word due c word n end k = tt
 
 kept_opening : (due : Due) (c : Circuit) (n end : ℕ) → Kept due c → After end (opening_step due c n)
 kept_opening inputs_line c n end k = k
-kept_opening inputs_head c n end k = tt
-kept_opening input_name c n end k = tt
-kept_opening line_end c n end k = tt
 kept_opening next_line c n end k = k
-kept_opening next_head c n end k = tt
-kept_opening gate_name c n end k = tt
 kept_opening (gate_begin name) c n end k = (k, tt)
-kept_opening (operator name pending) c n end k = tt
 kept_opening (operand name inner pending) c n end k =
     unless end (full inner) _ _ tt (λ room. (k.0, (roomy (line_count c) inner room k.1, k.2)))
-kept_opening (gate_line_close name) c n end k = tt
-kept_opening output_name c n end k = tt
-kept_opening outputs_end c n end k = tt
+kept_opening due c n end k = tt
 
 kept_closing : (due : Due) (c : Circuit) (n end : ℕ) → Kept due c → After end (closing_step due c n)
-kept_closing inputs_line c n end k = tt
-kept_closing inputs_head c n end k = tt
 kept_closing input_name c n end k =
     unless end (eqb (length c.inputs) 0) _ _ tt
     (λ some_input.
     let not_None = eqb-false (length c.inputs) 0 some_input in
     record { lined = k.lined; some_input = omega arith; no_outputs = k.no_outputs })
-kept_closing line_end c n end k = tt
-kept_closing next_line c n end k = tt
-kept_closing next_head c n end k = tt
-kept_closing gate_name c n end k = tt
-kept_closing (gate_begin name) c n end k = tt
-kept_closing (operator name pending) c n end k = tt
 kept_closing (operand name inner pending) c n end k =
     unless end (too_few inner) _ _ tt
     (λ enough. unless end (leb 512 (line_count c)) _ _ tt
@@ -284,37 +263,16 @@ kept_closing (gate_line_close name) c n end k = kept_name c name k.0 k.1
 kept_closing output_name c n end k =
     unless end (eqb (length c.outputs) 0) _ _ tt
     (λ some-output. let not_None = eqb-false (length c.outputs) 0 some-output in (k, omega arith))
-kept_closing outputs_end c n end k = tt
+kept_closing due c n end k = tt
 
 kept_feed : (due : Due) (c : Circuit) (n end : ℕ) → n + 1 ≤ end → Kept due c → After end (feed_step due c n)
-kept_feed inputs_line c n end le k = tt
-kept_feed inputs_head c n end le k = tt
-kept_feed input_name c n end le k = tt
 kept_feed line_end c n end le k = k
-kept_feed next_line c n end le k = tt
-kept_feed next_head c n end le k = tt
-kept_feed gate_name c n end le k = tt
-kept_feed (gate_begin name) c n end le k = tt
-kept_feed (operator name pending) c n end le k = tt
-kept_feed (operand name inner pending) c n end le k = tt
-kept_feed (gate_line_close name) c n end le k = tt
-kept_feed output_name c n end le k = tt
 kept_feed outputs_end c n end le k = (all_rules c k.0 k.1, le)
+kept_feed due c n end le k = tt
 
 kept_end : (due : Due) (c : Circuit) (n end : ℕ) → n ≤ end → Kept due c → After end (end_step due c n)
-kept_end inputs_line c n end le k = tt
-kept_end inputs_head c n end le k = tt
-kept_end input_name c n end le k = tt
-kept_end line_end c n end le k = tt
-kept_end next_line c n end le k = tt
-kept_end next_head c n end le k = tt
-kept_end gate_name c n end le k = tt
-kept_end (gate_begin name) c n end le k = tt
-kept_end (operator name pending) c n end le k = tt
-kept_end (operand name inner pending) c n end le k = tt
-kept_end (gate_line_close name) c n end le k = tt
-kept_end output_name c n end le k = tt
 kept_end outputs_end c n end le k = (all_rules c k.0 k.1, le)
+kept_end due c n end le k = tt
 
 kept_step : (due : Due) (c : Circuit) (t : Lexeme) (end : ℕ) → EndsBy end t → Kept due c → After end (step due c t)
 kept_step due c (Forbidden n) end le k = tt

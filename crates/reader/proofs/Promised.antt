@@ -16,7 +16,4 @@ none text e r c place d = refused_not_granted (sym r ∙ complete text c place d
 pub follows : (text : List ℕ) (r : Result Rest Refusal) (c : Circuit) → Reads text r c → Follows text r c
 follows text (Ok rest) c h = sound text c rest.place h.0
 follows text (Err refusal.Memory) c h = tt
-follows text (Err (refusal.Text e)) c h = none text (refusal.Text e) h.0
-follows text (Err (refusal.Form e)) c h = none text (refusal.Form e) h.0
-follows text (Err (refusal.Circuit e)) c h = none text (refusal.Circuit e) h.0
-follows text (Err (refusal.Folder e)) c h = none text (refusal.Folder e) h.0
+follows text (Err e) c h = none text e h.0

@@ -1,6 +1,7 @@
 -- Steps of the definition, at the words that the reader has tested.
-use Rattle.std.proofs.Common.{◌≡◌, ℕ, zero, suc, ◌<◌, List, [], ◌∷◌, map, length, get_or, set, Some, Err, vec_items, vec_len, Result, MatchResult, sym, refl, ap, ◌∙◌, arith}
+use Rattle.std.proofs.Common.{◌≡◌, ℕ, zero, suc, ◌<◌, List, [], ◌∷◌, map, length, get_or, set, Some, vec_items, vec_len, Result, IsErrAnd, MatchResult, sym, refl, ap, ◌∙◌, arith}
 use Rattle.std.proofs.lemmas.List.{map-set, get_or-map, length-map}
+use Rattle.std.proofs.lemmas.Result.{err_from_is_err_and}
 use Rattle.refusals.specs.declared.cause.Refusal.{Refusal}
 use Rattle.words.specs.Left.{onward}
 use Rattle.words.specs.Lexemes.{Lexeme}
@@ -39,12 +40,10 @@ stepped due p q t u taken same is =
     ap (run due (so_far p)) (taken ∙ ap (λ (x : Lexeme). x ∷ onward x (ahead q)) is) ∙ run_step due (so_far p) u (onward u (ahead q))
     ∙ ap (λ (tables : Tables). resumed (step due (tables_model tables) u) (onward u (ahead q))) (sym same)
 
--- how results lead on: an error that was carried up, a part before, a part after
-pub carried : {X : Type 0} (before : Outcome) (r : Result X Refusal) (goes : X → Type 0) (e f : Refusal) → r ≡ Err f → f ≡ e → Refuses before e → MatchResult r goes (Refuses before)
-carried before r goes e f is same h = rw (is, same) h
+-- an error that `?` hands up, of a part that began where reading already was
+pub handed_up : {X : Type 0} (before mid : Outcome) (r : Result X Refusal) (goes : X → Type 0) (e : Refusal) → IsErrAnd r (λ f. f ≡ e) → before ≡ mid → Refuses mid e → MatchResult r goes (Refuses before)
+handed_up before mid r goes e handed same refused = let error = err_from_is_err_and r handed in rw (error.1, error.2, same) refused
 
+-- a part after another
 pub leads_from : {X : Type 0} (before mid : Outcome) (r : Result X Refusal) (after : X → Outcome) → before ≡ mid → Leads mid r after → Leads before r after
 leads_from before mid r after e h = rw e h
-
-pub refuses_from : (before mid : Outcome) (e : Refusal) → before ≡ mid → Refuses mid e → Refuses before e
-refuses_from before mid e same h = rw same h

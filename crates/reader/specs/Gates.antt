@@ -20,6 +20,5 @@ going_on name inner pending p (Closing place) = resumed (closing_step (operand n
 
 -- inside the bracket that was opened one less may be
 abbrev pub Opens : ℕ → GatePart → Type 0
-Opens allowed (Name w) = Unit {0}
 Opens allowed (Opening inner) = suc inner ≡ allowed
-Opens allowed (Closing place) = Unit {0}
+Opens allowed part = Unit {0}

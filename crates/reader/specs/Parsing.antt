@@ -26,10 +26,7 @@ at due p = run due (so_far p) (ahead p)
 -- an error is the refusal of the definition, or want of memory
 abbrev pub Refuses : Outcome → Refusal → Type 0
 Refuses o refusal.Memory = Unit {0}
-Refuses o (refusal.Text e) = o ≡ Refused (refusal.Text e)
-Refuses o (refusal.Form e) = o ≡ Refused (refusal.Form e)
-Refuses o (refusal.Circuit e) = o ≡ Refused (refusal.Circuit e)
-Refuses o (refusal.Folder e) = o ≡ Refused (refusal.Folder e)
+Refuses o e = o ≡ Refused e
 
 -- a result leads from one outcome to another: granted, reading goes on as before; an error is how it ends
 abbrev pub Leads : {X : Type 0} → Outcome → Result X Refusal → (X → Outcome) → Type 0

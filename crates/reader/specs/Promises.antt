@@ -22,10 +22,7 @@ DescribesNone text = (c : Circuit) (place : ℕ) → Describes text c place → 
 -- a text is refused because it describes no circuit, or for want of memory
 abbrev pub Undescribed : List ℕ → Refusal → Type 0
 Undescribed text refusal.Memory = Unit {0}
-Undescribed text (refusal.Text e) = DescribesNone text
-Undescribed text (refusal.Form e) = DescribesNone text
-Undescribed text (refusal.Circuit e) = DescribesNone text
-Undescribed text (refusal.Folder e) = DescribesNone text
+Undescribed text e = DescribesNone text
 
 -- The caller's circuit is the one that the text describes, and the rest begins where that description ends.
 abbrev pub Follows : List ℕ → Result Rest Refusal → Circuit → Type 0

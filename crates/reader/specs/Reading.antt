@@ -148,41 +148,28 @@ operator_found c name pending n (Some op) = Go (operand name (record { op = op; 
 
 -- a word, well shaped
 abbrev pub word_step : Due → Circuit → List ℕ → ℕ → Step
-word_step inputs_line c word n = misplaced n
 word_step inputs_head c word n =
     cond (bytes_eq word (codes "inputs")) (Go input_name c) (cond (is_head word) (misplaced n) (unknown_word n))
 word_step input_name c word n =
     cond (taken c word) (name_taken n) (cond (nat_le 64 (length c.inputs)) (limit_passed n) (Go input_name (with_input c word)))
-word_step line_end c word n = misplaced n
-word_step next_line c word n = misplaced n
 word_step next_head c word n =
     cond (bytes_eq word (codes "gate")) (Go gate_name c)
     (cond (bytes_eq word (codes "outputs")) (Go output_name c)
     (cond (is_head word) (misplaced n) (unknown_word n)))
 word_step gate_name c word n = cond (taken c word) (name_taken n) (Go (gate_begin word) c)
-word_step (gate_begin name) c word n = misplaced n
 word_step (operator name pending) c word n = operator_found c name pending n (op_named word)
 word_step (operand name inner pending) c word n =
     cond (full inner) (wrong_count n) (operand_found c name inner pending n (line_named (names c) word))
-word_step (gate_line_close name) c word n = misplaced n
 word_step output_name c word n = output_found c n (line_named (names c) word)
-word_step outputs_end c word n = misplaced n
+word_step due c word n = misplaced n
 
 -- an opening bracket, of at most eight open together
 abbrev pub opening_step : Due → Circuit → ℕ → Step
 opening_step inputs_line c n = Go inputs_head c
-opening_step inputs_head c n = misplaced n
-opening_step input_name c n = misplaced n
-opening_step line_end c n = misplaced n
 opening_step next_line c n = Go next_head c
-opening_step next_head c n = misplaced n
-opening_step gate_name c n = misplaced n
 opening_step (gate_begin name) c n = Go (operator name []) c
-opening_step (operator name pending) c n = misplaced n
 opening_step (operand name inner pending) c n = cond (full inner) (wrong_count n) (Go (operator name (inner ∷ pending)) c)
-opening_step (gate_line_close name) c n = misplaced n
-opening_step output_name c n = misplaced n
-opening_step outputs_end c n = misplaced n
+opening_step due c n = misplaced n
 
 -- the gate is made: it has the next line number, and is an operand of the gate around it, if there is one
 abbrev pub made_gate : Circuit → Pending → Circuit
@@ -193,54 +180,28 @@ gate_made c name line [] = Go (gate_line_close name) c
 gate_made c name line (outer ∷ pending) = Go (operand name (with_operand outer line) pending) c
 
 abbrev pub closing_step : Due → Circuit → ℕ → Step
-closing_step inputs_line c n = misplaced n
-closing_step inputs_head c n = misplaced n
 closing_step input_name c n = cond (length c.inputs == 0) (misplaced n) (Go line_end c)
-closing_step line_end c n = misplaced n
-closing_step next_line c n = misplaced n
-closing_step next_head c n = misplaced n
-closing_step gate_name c n = misplaced n
-closing_step (gate_begin name) c n = misplaced n
-closing_step (operator name pending) c n = misplaced n
 closing_step (operand name inner pending) c n =
     cond (too_few inner) (wrong_count n)
     (cond (nat_le 512 (line_count c)) (limit_passed n)
     (gate_made (made_gate c inner) name (line_count c) pending))
 closing_step (gate_line_close name) c n = Go line_end (with_name c name)
 closing_step output_name c n = cond (length c.outputs == 0) (misplaced n) (Go outputs_end c)
-closing_step outputs_end c n = misplaced n
+closing_step due c n = misplaced n
 
 -- a line feed
 abbrev pub feed_step : Due → Circuit → ℕ → Step
-feed_step inputs_line c n = misplaced n
-feed_step inputs_head c n = misplaced n
-feed_step input_name c n = misplaced n
 feed_step line_end c n = Go next_line c
-feed_step next_line c n = misplaced n
-feed_step next_head c n = misplaced n
-feed_step gate_name c n = misplaced n
-feed_step (gate_begin name) c n = misplaced n
-feed_step (operator name pending) c n = misplaced n
-feed_step (operand name inner pending) c n = misplaced n
-feed_step (gate_line_close name) c n = misplaced n
-feed_step output_name c n = misplaced n
 feed_step outputs_end c n = Stop (Granted c (n + 1))
+feed_step due c n = misplaced n
 
 -- the text's end: it may end a line, and no line begins there
 abbrev pub end_step : Due → Circuit → ℕ → Step
 end_step inputs_line c n = ends_early n
-end_step inputs_head c n = misplaced n
-end_step input_name c n = misplaced n
 end_step line_end c n = ends_early n
 end_step next_line c n = ends_early n
-end_step next_head c n = misplaced n
-end_step gate_name c n = misplaced n
-end_step (gate_begin name) c n = misplaced n
-end_step (operator name pending) c n = misplaced n
-end_step (operand name inner pending) c n = misplaced n
-end_step (gate_line_close name) c n = misplaced n
-end_step output_name c n = misplaced n
 end_step outputs_end c n = Stop (Granted c n)
+end_step due c n = misplaced n
 
 -- one word, by the lowest number that fits it
 abbrev pub step : Due → Circuit → Lexeme → Step

@@ -1,7 +1,7 @@
 // Starting to read a text, and taking one token of it.
-ghost use Rattle.std.specs.Prelude.{◌≡◌, ◌^◌, ◌<◌, ◌≤◌, ◌∷◌, length};
+ghost use Rattle.std.specs.Prelude.{◌≡◌, ◌≤◌, ◌∷◌, length};
 ghost use Rattle.words.specs.Left.{onward};
-ghost use Rattle.words.specs.Lexemes.{lexeme, lexemes, end_of};
+ghost use Rattle.words.specs.Lexemes.{lexeme, lexemes};
 ghost use Rattle.reader.specs.Reading.{empty};
 ghost use Rattle.reader.specs.Parsing.{ahead, so_far};
 
@@ -33,7 +33,6 @@ impl<'a> Parser<'a> {
         ensures taken { ahead self.old ≡ lexeme result ∷ onward (lexeme result) (ahead self.new) }
         ensures same { self.new.tables ≡ self.old.tables }
         ensures fewer { length (ahead self.new) ≤ length (ahead self.old) }
-        ensures fits { end_of (lexeme result) < 2 ^ 64 }
     {
         self.lexer.next_token()
     }

@@ -8,7 +8,7 @@ use Rattle.words.specs.declared.expect.Mark.{Mark}
 use Rattle.words.specs.declared.expect.Mark.TheVariants as mark
 use Rattle.words.specs.declared.lexer.Lexer.{Lexer}
 use Rattle.words.specs.Left.{left, onward}
-use Rattle.words.specs.Lexemes.{Lexeme, Opening, Closing, Word, LineEnd, TextEnd, Forbidden}
+use Rattle.words.specs.Lexemes.{Lexeme, Opening, Closing, Word, LineEnd, TextEnd, Forbidden, end_of}
 use Rattle.words.specs.Spelling.{name_shape}
 
 -- the refusal of a lexeme that cannot stand where it stands, if no more than that is wrong with its place
@@ -22,36 +22,20 @@ unexpected (Forbidden n) = refusal.Text (ForbiddenByte n)
 
 abbrev pub is_opening : Lexeme → Bool
 is_opening (Opening n) = true
-is_opening (Closing n) = false
-is_opening (Word word n) = false
-is_opening (LineEnd n) = false
-is_opening (TextEnd n) = false
-is_opening (Forbidden n) = false
+is_opening t = false
 
 abbrev pub is_closing : Lexeme → Bool
-is_closing (Opening n) = false
 is_closing (Closing n) = true
-is_closing (Word word n) = false
-is_closing (LineEnd n) = false
-is_closing (TextEnd n) = false
-is_closing (Forbidden n) = false
+is_closing t = false
 
 -- a word of the shape of a name
 abbrev pub is_name_word : Lexeme → Bool
-is_name_word (Opening n) = false
-is_name_word (Closing n) = false
 is_name_word (Word word n) = name_shape word
-is_name_word (LineEnd n) = false
-is_name_word (TextEnd n) = false
-is_name_word (Forbidden n) = false
+is_name_word t = false
 
 abbrev pub is_feed : Lexeme → Bool
-is_feed (Opening n) = false
-is_feed (Closing n) = false
-is_feed (Word word n) = false
 is_feed (LineEnd n) = true
-is_feed (TextEnd n) = false
-is_feed (Forbidden n) = false
+is_feed t = false
 
 -- the lexeme of a bracket or line end at a place
 abbrev pub mark_at : Mark → ℕ → Lexeme
@@ -72,14 +56,12 @@ Unmet met t e = (met t ≡ false) × (e ≡ unexpected t)
 abbrev pub after_line : Lexeme → Option ℕ
 after_line (LineEnd n) = Some (n + 1)
 after_line (TextEnd n) = Some n
-after_line (Opening n) = None
-after_line (Closing n) = None
-after_line (Word bytes n) = None
-after_line (Forbidden n) = None
+after_line t = None
 
 -- A lexer took one lexeme where a line must end: the place after the line, or the refusal of a lexeme that ends none.
 pub record LineEnded (before : Lexer) (r : Result ℕ Refusal) (after : Lexer) : Type 0 where
   pub end : Lexeme
   pub taken : left before ≡ end ∷ onward end (left after)
   pub same : after.text ≡ before.text
+  pub place : after.place ≡ end_of end
   pub answer : MatchResult r (λ n. after_line end ≡ Some n) (λ e. (after_line end ≡ None) × (e ≡ unexpected end))

@@ -27,11 +27,7 @@ lexeme (token.Forbidden n) = Forbidden n
 -- word of its own otherwise.
 abbrev pub joined : ℕ → ℕ → Lexeme → List Lexeme → List Lexeme
 joined b n (Word bytes m) ts = cond (m == n + 1) (Word (b ∷ bytes) n ∷ ts) (Word (b ∷ []) n ∷ (Word bytes m ∷ ts))
-joined b n (Opening m) ts = Word (b ∷ []) n ∷ (Opening m ∷ ts)
-joined b n (Closing m) ts = Word (b ∷ []) n ∷ (Closing m ∷ ts)
-joined b n (LineEnd m) ts = Word (b ∷ []) n ∷ (LineEnd m ∷ ts)
-joined b n (TextEnd m) ts = Word (b ∷ []) n ∷ (TextEnd m ∷ ts)
-joined b n (Forbidden m) ts = Word (b ∷ []) n ∷ (Forbidden m ∷ ts)
+joined b n t ts = Word (b ∷ []) n ∷ (t ∷ ts)
 
 abbrev pub prefixed : ℕ → ℕ → List Lexeme → List Lexeme
 prefixed b n [] = Word (b ∷ []) n ∷ []
@@ -67,16 +63,8 @@ end_of (Forbidden n) = n + 1
 -- The lexemes of a text after one of them.
 abbrev pub following : List ℕ → Lexeme → List Lexeme
 following text (TextEnd n) = []
-following text (Opening n) = lexemes_from text (n + 1)
-following text (Closing n) = lexemes_from text (n + 1)
-following text (Word bytes n) = lexemes_from text (n + length bytes)
-following text (LineEnd n) = lexemes_from text (n + 1)
-following text (Forbidden n) = lexemes_from text (n + 1)
+following text t = lexemes_from text (end_of t)
 
 abbrev pub is_end : Lexeme → Bool
 is_end (TextEnd n) = true
-is_end (Opening n) = false
-is_end (Closing n) = false
-is_end (Word bytes n) = false
-is_end (LineEnd n) = false
-is_end (Forbidden n) = false
+is_end t = false
