@@ -1,7 +1,8 @@
 -- Which inputs a cube drives.
 use Rattle.std.proofs.Common.{◌≡◌, ℕ, suc, ◌*◌, ◌/◌, ◌%◌, ◌^◌, ◌<◌, ◌≤◌, true, eqb, ltb, leb, ◌⊎◌, length, Some, None, Option, Decides, SomeIff, unwrap_or, sym, ap, ◌∙◌, inl, inr, pow-suc, arith, pow_mono}
 use Rattle.std.proofs.lemmas.Nat.{pow_pos, div_below, le-div, leading_top}
-use Rattle.std.proofs.lemmas.Bool.{cases_lt, lt-ltb, le-ltb, le-leb, lt-leb, leb-true, eqb-true}
+use Rattle.std.proofs.lemmas.Nat.Bits.{bit_at_above}
+use Rattle.std.proofs.lemmas.Bool.{cases_lt, lt-ltb, le-ltb, le-leb, lt-leb, leb-true}
 use Rattle.circuit.specs.Model.{Circuit}
 use Rattle.faults.specs.Cubes.{Cube}
 use Rattle.simulator.specs.Detection.{bit}
@@ -37,10 +38,7 @@ past_bit : (word k i : ℕ) → k ≤ i → bit word i ≡ true → 2 ^ k ≤ wo
 past_bit word k i h e = go (cases_lt word (2 ^ k))
   where
     go : (word < 2 ^ k) ⊎ (2 ^ k ≤ word) → 2 ^ k ≤ word
-    go (inl l) =
-        let none : word / 2 ^ i ≡ 0 = omega (arith, div_below word (2 ^ i) 1 (pow_pos i) (omega (arith, pow_mono {i = k} {j = i} h))) in
-        let one : word / 2 ^ i % 2 ≡ 1 = eqb-true (word / 2 ^ i % 2) 1 e in
-        absurd (omega (arith, sym (ap (λ (n : ℕ). n % 2) none) ∙ one))
+    go (inl l) = absurd (let clash = sym (ap (λ (n : ℕ). eqb n 1) (bit_at_above word k i l h)) ∙ e in cc)
     go (inr l) = l
 
 -- the test on a cube's word tells whether it drives an input that the circuit lacks

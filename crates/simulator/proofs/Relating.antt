@@ -7,7 +7,7 @@ use Rattle.circuit.specs.declared.op.Op.{Op}
 use Rattle.circuit.specs.declared.op.Op.TheVariants.{And, Nand, Or, Nor, Xor, Xnor, Not, Buf}
 use Rattle.circuit.specs.Model.{Gate, Circuit}
 use Rattle.faults.specs.declared.fault.Fault.{Fault}
-use Rattle.simulator.specs.Lines.{at_pin, join, ended, joined, operands_from, gate_value, gates_after, inputs_row, lines}
+use Rattle.simulator.specs.Lines.{at_pin, join, negated_by, joined, operands_from, gate_value, gates_after, inputs_row, lines}
 
 -- what gates make of related values is related
 pub record KeepsGates {V W : Type 0} (G : Gates V) (H : Gates W) (R : V → W → Type 0) : Type 0 where
@@ -51,15 +51,15 @@ module _ {V W : Type 0} (A : Values V) (B : Values W) (f g : Option Fault) (R : 
   join_keeps Not = λ x u y w r s. r
   join_keeps Buf = λ x u y w r s. r
 
-  ended_keeps : (op : Op) (x : V) (y : W) → R x y → R (ended A.gates op x) (ended B.gates op y)
-  ended_keeps And = λ x y r. r
-  ended_keeps Nand = k.negate
-  ended_keeps Or = λ x y r. r
-  ended_keeps Nor = k.negate
-  ended_keeps Xor = λ x y r. r
-  ended_keeps Xnor = k.negate
-  ended_keeps Not = k.negate
-  ended_keeps Buf = λ x y r. r
+  negated_keeps : (op : Op) (x : V) (y : W) → R x y → R (negated_by A.gates op x) (negated_by B.gates op y)
+  negated_keeps And = λ x y r. r
+  negated_keeps Nand = k.negate
+  negated_keeps Or = λ x y r. r
+  negated_keeps Nor = k.negate
+  negated_keeps Xor = λ x y r. r
+  negated_keeps Xnor = k.negate
+  negated_keeps Not = k.negate
+  negated_keeps Buf = λ x y r. r
 
   folded_keeps : (op : Op) (x : V) (y : W) (xs : List V) (ys : List W) → R x y → AllZip R xs ys
       → R (fold (join A.gates op) x xs) (fold (join B.gates op) y ys)
@@ -84,9 +84,9 @@ module _ {V W : Type 0} (A : Values V) (B : Values W) (f g : Option Fault) (R : 
   gate_keeps xs ys gate r =
       let left = operands_from A f xs (length xs) 1 gate.operands in
       let right = operands_from B g ys (length xs) 1 gate.operands in
-      subst (λ (n : ℕ). R (gate_value A f xs gate) (at_pin B g n 0 (ended B.gates gate.op (joined B.gates gate.op (operands_from B g ys n 1 gate.operands)))))
+      subst (λ (n : ℕ). R (gate_value A f xs gate) (at_pin B g n 0 (negated_by B.gates gate.op (joined B.gates gate.op (operands_from B g ys n 1 gate.operands)))))
       (sym (AllZip-long R xs ys r))
-      (p (length xs) 0 _ _ (ended_keeps gate.op _ _ (joined_keeps gate.op left right (operands_keep xs ys (length xs) 1 gate.operands r))))
+      (p (length xs) 0 _ _ (negated_keeps gate.op _ _ (joined_keeps gate.op left right (operands_keep xs ys (length xs) 1 gate.operands r))))
 
   gates_keep : (gs : List Gate) (xs : List V) (ys : List W) → AllZip R xs ys → AllZip R (gates_after A f xs gs) (gates_after B g ys gs)
   gates_keep [] xs ys r = r

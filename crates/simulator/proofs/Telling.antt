@@ -7,13 +7,14 @@ use Rattle.std.proofs.lemmas.List.Sums.{AllPass-from_list_all, list_all-from_All
 use Rattle.values.specs.Pairs.{Pair, Pairs, pair, has, ◌∈◌, shows, still, only, Single}
 use Rattle.values.specs.Values.{differs, pairs}
 use Rattle.values.specs.Kind.{Kind, Lawful}
-use Rattle.values.specs.Members.{only_has, only_is}
+use Rattle.values.specs.Laws.Members.{only_has}
+use Rattle.values.proofs.Members.{only_is}
 use Rattle.circuit.specs.Model.{Circuit}
 use Rattle.faults.specs.declared.fault.Fault.{Fault}
 use Rattle.faults.specs.Cubes.{Cube}
 use Rattle.simulator.specs.declared.verdict.Verdict.TheVariants.{Shows, Still, Unsure}
-use Rattle.simulator.specs.Detection.{bit, input_value, simulated, set_of, detected, quiet, verdict, pair_under, Fills, DrivesAll}
-use Rattle.simulator.specs.Laws.{KeepsVectors, ShownAreTests, QuietDetectNothing, VectorsAreShown, Telling, Tells}
+use Rattle.simulator.specs.Detection.{bit, input_value, simulated, set_of, detected, is_still, verdict, pair_under, Fills, DrivesAll}
+use Rattle.simulator.specs.Laws.{KeepsVectors, ShownAreTests, StillDetectNothing, VectorsAreShown, Telling, Tells}
 use Rattle.simulator.proofs.Relating.{KeepsGates, KeepsPins, stuck_keeps, line_keeps}
 use Rattle.simulator.proofs.Readings.{vector, pair_is}
 
@@ -133,8 +134,8 @@ module _ (K : Kind) (M : Pairs → Type 0) (l : Lawful K M) where
       some_from _ _ (λ o e. let p = pair_under c f v o in shows_differ (set_of (simulated K c f q) o) p.good p.faulty e (keeps_vectors c f q v fills o)) c.outputs h
 
   -- below a still cube no vector detects
-  pub quiet_detect_nothing : QuietDetectNothing K
-  quiet_detect_nothing c f q v h fills =
+  pub still_detect_nothing : StillDetectNothing K
+  still_detect_nothing c f q v h fills =
       none_from _ _ (λ o e. let p = pair_under c f v o in still_same (set_of (simulated K c f q) o) p.good p.faulty e (keeps_vectors c f q v fills o)) c.outputs h
 
   -- a vector that detects is a cube that shows
@@ -143,10 +144,10 @@ module _ (K : Kind) (M : Pairs → Type 0) (l : Lawful K M) where
       some_from _ _ (λ o e. let p = pair_under c f v o in ap shows (driven_exact c f q v fills whole o) ∙ only_shows p.good p.faulty e) c.outputs h
 
   pub telling : Telling K
-  telling = record { keeps = keeps_vectors; shown = shown_are_tests; quiet = quiet_detect_nothing; vectors = vectors_are_shown }
+  telling = record { keeps = keeps_vectors; shown = shown_are_tests; still = still_detect_nothing; vectors = vectors_are_shown }
 
   -- a cube that drives every input, and does not show, is still
-  pub driven_decided : (c : Circuit) (f : Option Fault) (q : Cube) → DrivesAll c q → detected K c f q ≡ false → quiet K c f q ≡ true
+  pub driven_decided : (c : Circuit) (f : Option Fault) (q : Cube) → DrivesAll c q → detected K c f q ≡ false → is_still K c f q ≡ true
   driven_decided c f q whole h =
       every_from _ _ (λ o e. let p = pair_under c f q.level o in ap still (exact o) ∙ only_still p.good p.faulty (ap shows (sym (exact o)) ∙ e)) c.outputs h
     where
@@ -155,9 +156,9 @@ module _ (K : Kind) (M : Pairs → Type 0) (l : Lawful K M) where
 
   -- what the verdict says
   pub verdict_tells : (c : Circuit) (f : Option Fault) (q : Cube) → Tells c f q (verdict K c f q)
-  verdict_tells c f q = go (detected K c f q) refl (quiet K c f q) refl
+  verdict_tells c f q = go (detected K c f q) refl (is_still K c f q) refl
     where
-      go : (a : Bool) → detected K c f q ≡ a → (b : Bool) → quiet K c f q ≡ b → Tells c f q (cond a Shows (cond b Still Unsure))
+      go : (a : Bool) → detected K c f q ≡ a → (b : Bool) → is_still K c f q ≡ b → Tells c f q (cond a Shows (cond b Still Unsure))
       go true d b e = λ v fills. shown_are_tests c f q v d fills
-      go false d true e = λ v fills. quiet_detect_nothing c f q v e fills
+      go false d true e = λ v fills. still_detect_nothing c f q v e fills
       go false d false e = λ whole. false≢true (sym e ∙ driven_decided c f q whole d)

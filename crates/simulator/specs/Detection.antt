@@ -44,8 +44,8 @@ abbrev pub detected : Kind → Circuit → Option Fault → Cube → Bool
 detected K c f q = some_shows (simulated K c f q) c.outputs
 
 -- the kind shows that the cube, however it is filled in, cannot detect the fault
-abbrev pub quiet : Kind → Circuit → Option Fault → Cube → Bool
-quiet K c f q = all_still (simulated K c f q) c.outputs
+abbrev pub is_still : Kind → Circuit → Option Fault → Cube → Bool
+is_still K c f q = all_still (simulated K c f q) c.outputs
 
 -- the verdict on a cube
 abbrev pub verdict : Kind → Circuit → Option Fault → Cube → Verdict

@@ -7,7 +7,7 @@ use Rattle.faults.specs.declared.fault.Fault.{Fault}
 use Rattle.faults.specs.Cubes.{Cube}
 use Rattle.simulator.specs.declared.verdict.Verdict.{Verdict}
 use Rattle.simulator.specs.declared.verdict.Verdict.TheVariants.{Shows, Still, Unsure}
-use Rattle.simulator.specs.Detection.{simulated, set_of, detected, quiet, pair_under, detects, Fills, DrivesAll}
+use Rattle.simulator.specs.Detection.{simulated, set_of, detected, is_still, pair_under, detects, Fills, DrivesAll}
 
 -- under a cube that a vector fills in, what the vector makes of each line is among the line's set
 abbrev pub KeepsVectors : Kind → Type 0
@@ -19,8 +19,8 @@ abbrev pub ShownAreTests : Kind → Type 0
 ShownAreTests K = (c : Circuit) (f : Option Fault) (q : Cube) (v : ℕ) → detected K c f q ≡ true → Fills v q → detects c f v ≡ true
 
 -- below a still cube no vector detects the fault
-abbrev pub QuietDetectNothing : Kind → Type 0
-QuietDetectNothing K = (c : Circuit) (f : Option Fault) (q : Cube) (v : ℕ) → quiet K c f q ≡ true → Fills v q → detects c f v ≡ false
+abbrev pub StillDetectNothing : Kind → Type 0
+StillDetectNothing K = (c : Circuit) (f : Option Fault) (q : Cube) (v : ℕ) → is_still K c f q ≡ true → Fills v q → detects c f v ≡ false
 
 -- a vector that detects the fault, as a cube that drives every input, shows
 abbrev pub VectorsAreShown : Kind → Type 0
@@ -31,7 +31,7 @@ VectorsAreShown K =
 pub record Telling (K : Kind) : Type 0 where
   pub keeps : KeepsVectors K
   pub shown : ShownAreTests K
-  pub quiet : QuietDetectNothing K
+  pub still : StillDetectNothing K
   pub vectors : VectorsAreShown K
 
 -- What a verdict on a cube says of vectors: after Shows each that fills in the cube detects the fault, after Still none

@@ -23,16 +23,16 @@ join G Xnor x y = G.differ x y
 join G Not x y = x
 join G Buf x y = x
 
--- what a gate makes of its joined operands
-abbrev pub ended : {V : Type 0} → Gates V → Op → V → V
-ended G And x = x
-ended G Nand x = G.negate x
-ended G Or x = x
-ended G Nor x = G.negate x
-ended G Xor x = x
-ended G Xnor x = G.negate x
-ended G Not x = G.negate x
-ended G Buf x = x
+-- the joined operands' value, negated if the operator negates
+abbrev pub negated_by : {V : Type 0} → Gates V → Op → V → V
+negated_by G And x = x
+negated_by G Nand x = G.negate x
+negated_by G Or x = x
+negated_by G Nor x = G.negate x
+negated_by G Xor x = x
+negated_by G Xnor x = G.negate x
+negated_by G Not x = G.negate x
+negated_by G Buf x = x
 
 -- the operands two at a time, from the left; each gate has one at least
 abbrev pub joined : {V : Type 0} → Gates V → Op → List V → V
@@ -51,7 +51,7 @@ operands_from A f row line pin (o ∷ os) = at_pin A f line pin (line_value A ro
 -- what a gate carries whose line comes next after those of the row
 abbrev pub gate_value : {V : Type 0} → Values V → Option Fault → List V → Gate → V
 gate_value A f row g =
-    at_pin A f (length row) 0 (ended A.gates g.op (joined A.gates g.op (operands_from A f row (length row) 1 g.operands)))
+    at_pin A f (length row) 0 (negated_by A.gates g.op (joined A.gates g.op (operands_from A f row (length row) 1 g.operands)))
 
 -- the row with the lines of the gates after it, each gate worked out from the lines before it
 abbrev pub gates_after : {V : Type 0} → Values V → Option Fault → List V → List Gate → List V

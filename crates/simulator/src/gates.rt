@@ -2,13 +2,14 @@
 ghost use Rattle.std.specs.Prelude.{◌≡◌, true, map, length};
 ghost use Rattle.circuit.specs.Lawful.{gate_fits};
 ghost use Rattle.circuit.specs.Tables.{gate_model};
-ghost use Rattle.simulator.specs.Lines.{at_pin, join, ended, gate_value};
+ghost use Rattle.simulator.specs.Lines.{at_pin, join, negated_by, gate_value};
 
 use circuit::{Gate, Op};
 use faults::Fault;
 use values::kind::ValueKind;
 
-// The value at a pin of a line: stuck if the fault is at that pin.
+// The value at a pin of a line: stuck if the fault is at that pin. (No struct of fault and line: it would be made anew for each
+// input, to be asked once. None of fault and row: a gate reads the front of the row in which it is written.)
 pub fn at_pin<V: ValueKind>(fault: Option<Fault>, line: usize, pin: usize, value: V) -> V
     ensures { V.ValueKind.meaning result ≡ at_pin V.ValueKind.kind.values fault line pin (V.ValueKind.meaning value) }
 {
@@ -30,9 +31,9 @@ fn join<V: ValueKind>(op: Op, value: V, next: V) -> V
     }
 }
 
-// What a gate makes of its joined operands.
-fn end<V: ValueKind>(op: Op, value: V) -> V
-    ensures { V.ValueKind.meaning result ≡ ended V.ValueKind.kind.values.gates op (V.ValueKind.meaning value) }
+// The joined operands' value, negated if the operator negates.
+fn negated_by<V: ValueKind>(op: Op, value: V) -> V
+    ensures { V.ValueKind.meaning result ≡ negated_by V.ValueKind.kind.values.gates op (V.ValueKind.meaning value) }
 {
     match op {
         Op::Nand | Op::Nor | Op::Xnor | Op::Not => value.not(),
@@ -50,10 +51,10 @@ pub fn gate_value<V: ValueKind>(gate: &Gate, fault: Option<Fault>, row: &[V]) ->
         unreachable!()
     };
     let mut value = at_pin(fault, line, 1, row[*first]);
-    // no `fold`: its closure, with the bounds of its index to show at each turn, is longer than this loop
-    for (index, operand) in others.iter().enumerate() {
-        let next = at_pin(fault, line, index + 2, row[*operand]);
+    // by a `fold` two goals stay open: that its closure may be called at each operand, and what the fold gives
+    for (pin, operand) in (2..).zip(others) {
+        let next = at_pin(fault, line, pin, row[*operand]);
         value = join(gate.op, value, next);
     }
-    at_pin(fault, line, 0, end(gate.op, value))
+    at_pin(fault, line, 0, negated_by(gate.op, value))
 }

@@ -4,7 +4,7 @@ ghost use Rattle.circuit.specs.Model.{Gate as GateModel};
 ghost use Rattle.circuit.specs.Lawful.{gate_fits, each_after};
 ghost use Rattle.circuit.specs.Tables.{gate_model};
 ghost use Rattle.simulator.specs.Lines.{inputs_row, gate_value, gates_after};
-ghost use Rattle.simulator.specs.Detection.{input_value, set_of, judged};
+ghost use Rattle.simulator.specs.Detection.{input_value, set_of, some_shows, all_still, judged};
 ghost use Rattle.simulator.specs.Simulation.{drives_beyond, DrivesBeyond, row_allowed, simulation_allowed, Simulates};
 ghost use Rattle.simulator.specs.Laws.{Telling};
 
@@ -16,7 +16,8 @@ use faults::{Cube, Fault};
 use refusals::FolderRefusal;
 use values::kind::ValueKind;
 
-// What a cube gives an input.
+// What a cube gives an input. (By `map_or_else` it gets no proof: the kit does not cover a function passed by name that makes a
+// value of a type parameter.)
 fn input_value<V: ValueKind>(cube: Cube, input: usize) -> V
     ensures { V.ValueKind.meaning result ≡ input_value V.ValueKind.kind cube input }
 {
@@ -36,14 +37,12 @@ fn drive<V: ValueKind>(cube: Cube, fault: Option<Fault>, row: &mut [V])
 }
 
 // Works out the lines of the gates, below which those of the inputs stand.
-#[tactic(auto, using(crate::proofs::Rules::fits_at, std::proofs::lemmas::Grind::common_steps))]
 fn settle<V: ValueKind>(inputs: usize, gates: &[Gate], fault: Option<Fault>, row: &mut [V])
     requires fit { each_after (λ (before : List GateModel). gate_fits (inputs + length before)) [] (map gate_model gates.now) ≡ true }
     requires room { inputs + length gates.now ≡ length row.old }
     ensures { map V.ValueKind.meaning row.new ≡ gates_after V.ValueKind.kind.values fault (map V.ValueKind.meaning (take inputs row.old)) (map gate_model gates.now) }
 {
-    for (index, gate) in gates.iter().enumerate() {
-        let line = inputs + index;
+    for (line, gate) in (inputs..).zip(gates) {
         row[line] = gate_value(gate, fault, &row[..line]);
     }
 }
@@ -56,14 +55,30 @@ fn value_at<V: ValueKind>(row: &[V], line: usize) -> V
     row[line]
 }
 
+// Whether some output's value shows.
+fn some_shows<V: ValueKind>(outputs: &[usize], row: &[V]) -> bool
+    requires { All (λ (o : ℕ). o < length row.now) outputs.now }
+    ensures { result ≡ some_shows (map V.ValueKind.meaning row.now) outputs.now }
+{
+    outputs.iter().any(|output| value_at(row, *output).shows())
+}
+
+// Whether every output's value is still.
+fn all_still<V: ValueKind>(outputs: &[usize], row: &[V]) -> bool
+    requires { All (λ (o : ℕ). o < length row.now) outputs.now }
+    ensures { result ≡ all_still (map V.ValueKind.meaning row.now) outputs.now }
+{
+    outputs.iter().all(|output| value_at(row, *output).still())
+}
+
 // The verdict on the lines of a row.
 fn judge<V: ValueKind>(outputs: &[usize], row: &[V]) -> Verdict
     requires { All (λ (o : ℕ). o < length row.now) outputs.now }
     ensures { result ≡ judged (map V.ValueKind.meaning row.now) outputs.now }
 {
-    if outputs.iter().any(|output| value_at(row, *output).shows()) {
+    if some_shows(outputs, row) {
         Verdict::Shows
-    } else if outputs.iter().all(|output| value_at(row, *output).still()) {
+    } else if all_still(outputs, row) {
         Verdict::Still
     } else {
         Verdict::Unsure

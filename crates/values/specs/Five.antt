@@ -4,7 +4,7 @@ use Rattle.values.specs.Pairs.{Pairs, only, every_pair}
 use Rattle.values.specs.Kind.{Kind}
 use Rattle.values.specs.Made.{closing, SmallestAnswers}
 use Rattle.values.specs.declared.five.Five.{Five}
-use Rattle.values.specs.declared.five.Five.TheVariants.{BothZero, BothOne, GoodOne, FaultyOne, Any}
+use Rattle.values.specs.declared.five.Five.TheVariants.{Pair, Any}
 
 -- the sets of the kind, smaller before larger
 abbrev pub five_sets : List Pairs
@@ -16,10 +16,7 @@ five = closing five_sets every_pair
 
 -- the pairs that a value admits
 abbrev pub five_meaning : Five → Pairs
-five_meaning BothZero = only false false
-five_meaning BothOne = only true true
-five_meaning GoodOne = only true false
-five_meaning FaultyOne = only false true
+five_meaning (Pair good faulty) = only good faulty
 five_meaning Any = every_pair
 
 -- the answers of five are the smallest

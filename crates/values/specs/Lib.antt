@@ -7,7 +7,4 @@ pub mod Halves
 pub mod Nine
 pub mod Seven
 pub mod KnownValues
-pub mod ByTest
-pub mod Tests
-pub mod Members
-pub mod KindLaws
+pub mod Laws

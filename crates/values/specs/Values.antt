@@ -24,11 +24,7 @@ differs false b = b
 abbrev pub levels : Gates Bool
 levels = record { known = λ b. b; negate = not; both = ◌&&◌; either = ◌||◌; differ = differs }
 
--- the circuit without the fault: sticking changes nothing
-abbrev pub good_levels : Values Bool
-good_levels = record { gates = levels; stick = λ v x. x }
-
--- the circuit with the fault: sticking puts the stuck level in place
+-- one circuit, with a fault or without: sticking puts the stuck level in place
 abbrev pub faulty_levels : Values Bool
 faulty_levels = record { gates = levels; stick = λ v x. v }
 

@@ -1,4 +1,5 @@
-// What is known of one level.
+// What is known of one level. (The tables say what three-valued logic is. `min` and `max` of an order in which what is unknown stands
+// between 0 and 1 would give two of the four, and need a word on that order.)
 ghost use Rattle.std.specs.Prelude.{◌≡◌};
 ghost use Rattle.values.specs.Halves.{half_and, half_not, half_or, half_xor, level_half};
 

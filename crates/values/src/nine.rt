@@ -2,7 +2,7 @@
 ghost use Rattle.values.specs.Halves.{of_halves};
 ghost use Rattle.values.specs.Made.{Among};
 ghost use Rattle.values.specs.Nine.{nine, nine_sets};
-ghost use Rattle.values.specs.KindLaws.{nine_laws};
+ghost use Rattle.values.specs.Laws.{nine_laws};
 ghost use Rattle.std.proofs.Common.{rules};
 
 use crate::half::Half;

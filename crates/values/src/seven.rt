@@ -3,7 +3,7 @@ ghost use Rattle.std.specs.Prelude.{◌≡◌};
 ghost use Rattle.values.specs.Halves.{of_halves};
 ghost use Rattle.values.specs.Made.{Among};
 ghost use Rattle.values.specs.Seven.{forced, seven, seven_sets};
-ghost use Rattle.values.specs.KindLaws.{seven_laws};
+ghost use Rattle.values.specs.Laws.{seven_laws};
 ghost use Rattle.std.proofs.Common.{rules, arith};
 
 use crate::half::Half;

@@ -1,7 +1,8 @@
 -- Driving one more input, above those that a cube drives.
-use Rattle.std.proofs.Common.{◌≡◌, ℕ, ◌+◌, ◌*◌, ◌/◌, ◌%◌, ◌^◌, ◌<◌, Bool, true, false, cond, ◌&&◌, eqb, sym, refl, ap, ◌∙◌, add-zero, add_comm, one-mul, pow-suc, zero-mul, arith}
+use Rattle.std.proofs.Common.{◌≡◌, ℕ, ◌+◌, ◌*◌, ◌/◌, ◌%◌, ◌^◌, ◌<◌, Bool, true, false, cond, ◌&&◌, eqb, sym, refl, ap, ◌∙◌, add-zero, add_comm, one-mul, zero-mul, arith}
 use native.Mathlib.Nat.{div-eq_of_lt}
 use lib.Bits.{bit_or, or_shifted_r, or_zero_r}
+use Rattle.std.proofs.lemmas.Nat.{pow-add}
 use Rattle.std.proofs.lemmas.Bool.{lt-ltb}
 use Rattle.faults.specs.Cubes.{Cube, leaves_open, driving}
 use Rattle.visit.specs.Visiting.{drive}
@@ -24,13 +25,9 @@ driving_above q i level small h l =
     ap (λ (b : Bool). cond b (record { driven = bit_or q.driven (2 ^ i); level = bit_or q.level (cond level (2 ^ i) 0) }) q) (open_above q i small h)
     ∙ rw (or_place q.driven i h, or_level q.level i level l) refl
 
--- twice a power
-pub double : (k : ℕ) → 2 ^ (k + 1) ≡ 2 ^ k + 2 ^ k
-double k = ap (λ (j : ℕ). 2 ^ j) (omega arith) ∙ pow-suc 2 k ∙ omega arith
-
 pub drive_lower : (q : Cube) (i : ℕ) → q.driven < 2 ^ i → q.driven + 2 ^ i < 2 ^ (i + 1)
-drive_lower q i h = omega (arith, double i)
+drive_lower q i h = omega (arith, pow-add 2 i 1)
 
 pub drive_level_lower : (q : Cube) (i : ℕ) (level : Bool) → q.level < 2 ^ i → q.level + cond level 1 0 * 2 ^ i < 2 ^ (i + 1)
-drive_level_lower q i true h = omega (arith, double i)
-drive_level_lower q i false h = omega (arith, double i)
+drive_level_lower q i true h = omega (arith, pow-add 2 i 1)
+drive_level_lower q i false h = omega (arith, pow-add 2 i 1)

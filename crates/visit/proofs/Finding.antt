@@ -1,5 +1,5 @@
 -- The visit misses no cube that is worth having.
-use Rattle.std.proofs.Common.{◌≡◌, ℕ, zero, suc, ◌+◌, ◌-◌, ◌*◌, ◌/◌, ◌%◌, ◌^◌, ◌<◌, ◌≤◌, Bool, true, false, cond, not, ◌&&◌, ltb, ◌⊎◌, Some, None, Option, sym, refl, ap, ◌∙◌, subst, inl, inr, true≢false, mod-eq_of_lt, add_comm, one-mul, zero-add, zero-mul, arith, ltb-false, ltb-true}
+use Rattle.std.proofs.Common.{◌≡◌, ℕ, zero, suc, ◌+◌, ◌-◌, ◌*◌, ◌/◌, ◌%◌, ◌^◌, ◌<◌, ◌≤◌, Bool, true, false, cond, not, ◌&&◌, ltb, ◌⊎◌, Some, None, Option, sym, refl, ap, ◌∙◌, subst, inl, inr, true≢false, mod-eq_of_lt, add_comm, zero-add, arith, ltb-false, ltb-true}
 use native.Mathlib.Nat.{mod-one}
 use lib.Count.{ones, ones_cat}
 use Rattle.std.proofs.lemmas.Nat.{shr_split, mod-pow-add, mod_below, pow_pos}
@@ -105,28 +105,21 @@ module _ (judge : Cube → Verdict) (budget inputs : ℕ) where
     low : (k n : ℕ) → n % 2 ^ (k + 1) ≡ (n / 2 ^ k % 2) * 2 ^ k + n % 2 ^ k
     low k n = ap (λ (j : ℕ). n % 2 ^ j) (add_comm k 1) ∙ mod-pow-add n 1 k
 
-    cubes : (a b c d : ℕ) → a ≡ b → c ≡ d → ◌≡◌ {A = Cube} (record { driven = a; level = c }) (record { driven = b; level = d })
-    cubes a b c d x y = rw (x, y) refl
-
     -- an input that t does not drive adds nothing, and one that it drives adds its level
     cut_open : (k : ℕ) (t : Cube) → t.driven / 2 ^ k % 2 ≡ 0 → t.level / 2 ^ k % 2 ≡ 0 → cut (k + 1) t ≡ cut k t
-    cut_open k t d l = cubes _ _ _ _ (open' t.driven d) (open' t.level l)
+    cut_open k t d l = rw (open' t.driven d, open' t.level l) refl
       where
         open' : (n : ℕ) → n / 2 ^ k % 2 ≡ 0 → n % 2 ^ (k + 1) ≡ n % 2 ^ k
-        open' n e = low k n ∙ ap (λ (b : ℕ). b * 2 ^ k + n % 2 ^ k) e ∙ ap (λ (x : ℕ). x + n % 2 ^ k) (zero-mul (2 ^ k)) ∙ zero-add (n % 2 ^ k)
+        open' n e = low k n ∙ ap (λ (b : ℕ). b * 2 ^ k + n % 2 ^ k) e ∙ omega arith
 
     cut_driven : (k v : ℕ) (t : Cube) → t.driven / 2 ^ k % 2 ≡ 1 → t.level / 2 ^ k % 2 ≡ v → cut (k + 1) t ≡ drive (cut k t) k v
-    cut_driven k v t d l = cubes _ _ _ _
-        (low k t.driven ∙ ap (λ (b : ℕ). b * 2 ^ k + t.driven % 2 ^ k) d ∙ ap (λ (x : ℕ). x + t.driven % 2 ^ k) (one-mul (2 ^ k)) ∙ add_comm (2 ^ k) (t.driven % 2 ^ k))
-        (low k t.level ∙ ap (λ (b : ℕ). b * 2 ^ k + t.level % 2 ^ k) l ∙ add_comm (v * 2 ^ k) (t.level % 2 ^ k))
+    cut_driven k v t d l =
+        let driven : t.driven % 2 ^ (k + 1) ≡ t.driven % 2 ^ k + 2 ^ k = low k t.driven ∙ ap (λ (b : ℕ). b * 2 ^ k + t.driven % 2 ^ k) d ∙ omega arith in
+        let level : t.level % 2 ^ (k + 1) ≡ t.level % 2 ^ k + v * 2 ^ k = low k t.level ∙ ap (λ (b : ℕ). b * 2 ^ k + t.level % 2 ^ k) l ∙ omega arith in
+        rw (driven, level) refl
 
     two : (n : ℕ) → (n % 2 ≡ 0) ⊎ (n % 2 ≡ 1)
-    two n = go (n % 2) (mod_below n 2 (omega arith))
-      where
-        go : (x : ℕ) → x < 2 → (x ≡ 0) ⊎ (x ≡ 1)
-        go zero h = inl refl
-        go (suc zero) h = inr refl
-        go (suc (suc x)) h = absurd (omega arith)
+    two n = grind arith
 
     Finds : ℕ → Cube → ℕ → Type 0
     Finds m t k = (s : Progress) → judge (cut k t) ≡ Unsure
@@ -171,18 +164,13 @@ module _ (judge : Cube → Verdict) (budget inputs : ℕ) where
         → Within t.driven t.level → judge t ≡ Shows → Finds m t k
     unfolding Finds
     below_finds zero k e t dl ll proper shown s unsure h =
-        absurd (clash (sym shown ∙ ap judge whole ∙ unsure))
+        absurd (let clash : Shows ≡ Unsure = sym shown ∙ ap judge whole ∙ unsure in cc)
       where
-        clash : Shows ≡ Unsure → ⊥
-        clash x = let z : ◌≡◌ {A = ℕ} 0 1 = ap (elim [ Shows ↦ 0 | Still ↦ 1 | Unsure ↦ 1 ]) x in omega arith
-
         at : k ≡ inputs
         at = omega arith
 
         whole : t ≡ cut k t
-        whole = cubes t.driven (t.driven % 2 ^ k) t.level (t.level % 2 ^ k)
-            (sym (ap (λ (j : ℕ). t.driven % 2 ^ j) at ∙ mod-eq_of_lt dl))
-            (sym (ap (λ (j : ℕ). t.level % 2 ^ j) at ∙ mod-eq_of_lt ll))
+        whole = rw (at, mod-eq_of_lt dl, mod-eq_of_lt ll) refl
     below_finds (suc m) k e t dl ll proper shown s unsure h =
         step (inputs - suc m) (omega arith) (below_finds m (k + 1) (omega arith) t dl ll proper shown) h (two (t.driven / 2 ^ k)) (two (t.level / 2 ^ k))
       where
@@ -201,5 +189,5 @@ module _ (judge : Cube → Verdict) (budget inputs : ℕ) where
     unfolding Finds
     visit_finds t dl ll proper shown h =
         subst (λ (q : Cube). (met judge budget (below judge budget inputs inputs) q at_start).spent ≡ false → AtMost (met judge budget (below judge budget inputs inputs) q at_start).best (ones t.driven))
-        (cubes _ _ _ _ (mod-one t.driven) (mod-one t.level))
+        (rw (mod-one t.driven, mod-one t.level) refl)
         (met_finds (below judge budget inputs inputs) 0 t at_start shown (below_finds inputs 0 (zero-add inputs) t dl ll proper shown)) h

@@ -1,13 +1,12 @@
 -- What lasts through a visit: its best cube is a cube of the circuit's inputs that shows, and its tries stay within the budget.
-use Rattle.std.proofs.Common.{◌≡◌, ℕ, zero, suc, ◌+◌, ◌-◌, ◌*◌, ◌/◌, ◌%◌, ◌^◌, ◌<◌, ◌≤◌, Bool, true, false, cond, not, ◌&&◌, ltb, ◌⊎◌, Some, None, Option, sym, refl, ap, ◌∙◌, subst, inl, inr, mul_assoc, mul_comm, one-mul, pow-suc, zero-add, arith, pow_mono}
-use native.Mathlib.Nat.{add-mul-div_right, add-mul-mod_self_right, div-eq_of_lt}
-use Rattle.std.proofs.lemmas.Nat.{pow_pos, pow-add}
+use Rattle.std.proofs.Common.{◌≡◌, ℕ, zero, suc, ◌+◌, ◌-◌, ◌*◌, ◌/◌, ◌%◌, ◌^◌, ◌<◌, ◌≤◌, Bool, true, false, cond, not, ◌&&◌, ltb, ◌⊎◌, Some, None, Option, sym, refl, ap, ◌∙◌, subst, inl, inr, zero-add, arith, pow_mono}
+use Rattle.std.proofs.lemmas.Nat.{pow-add}
+use Rattle.std.proofs.lemmas.Nat.Bits.{bit_at_cat_low, bit_at_cat_high, bit_at_above}
 use Rattle.std.proofs.lemmas.Bool.{cases_eq, cases_lt, ltb-true}
 use Rattle.faults.specs.Cubes.{Cube, Within, nothing_driven}
 use Rattle.simulator.specs.declared.verdict.Verdict.{Verdict}
 use Rattle.simulator.specs.declared.verdict.Verdict.TheVariants.{Shows, Still, Unsure}
 use Rattle.visit.specs.Visiting.{Progress, fewer, drive, tried, met, below, at_start, visited}
-use Rattle.visit.proofs.Cubes.{double}
 
 -- a cube of the k lowest inputs, with a level only where it drives
 pub record Shape (k : ℕ) (q : Cube) : Type 0 where
@@ -15,64 +14,36 @@ pub record Shape (k : ℕ) (q : Cube) : Type 0 where
   pub level_low : q.level < 2 ^ k
   pub proper : Within q.driven q.level
 
--- bit i of a number to which 2 ^ (i + 1 + j) times v is added
-bit_below : (d v i j : ℕ) → (d + v * 2 ^ (i + suc j)) / 2 ^ i % 2 ≡ d / 2 ^ i % 2
-bit_below d v i j =
-    ap (λ (x : ℕ). (d + x) / 2 ^ i % 2) wide ∙ ap (λ (x : ℕ). x % 2) (add-mul-div_right d (v * 2 ^ suc j) (pow_pos i))
-    ∙ ap (λ (x : ℕ). (d / 2 ^ i + x) % 2) even ∙ add-mul-mod_self_right (d / 2 ^ i) (v * 2 ^ j) 2
-  where
-    wide : v * 2 ^ (i + suc j) ≡ v * 2 ^ suc j * 2 ^ i
-    wide = ap (λ (x : ℕ). v * x) (pow-add 2 i (suc j) ∙ mul_comm (2 ^ i) (2 ^ suc j)) ∙ sym (mul_assoc v (2 ^ suc j) (2 ^ i))
-
-    even : v * 2 ^ suc j ≡ v * 2 ^ j * 2
-    even = ap (λ (x : ℕ). v * x) (pow-suc 2 j) ∙ sym (mul_assoc v (2 ^ j) 2)
-
-bit_above : (n k i : ℕ) → n < 2 ^ k → k ≤ i → n / 2 ^ i % 2 ≡ 0
-bit_above n k i h l = ap (λ (x : ℕ). x % 2) (div-eq_of_lt (let p = pow_mono l in omega arith))
-
 shape_mono : (k j : ℕ) (q : Cube) → k ≤ j → Shape k q → Shape j q
 shape_mono k j q l h = let p = pow_mono l in record { driven_low = omega (arith, h.driven_low); level_low = omega (arith, h.level_low); proper = h.proper }
 
 shape_drive : (k v : ℕ) (q : Cube) → v ≤ 1 → Shape k q → Shape (k + 1) (drive q k v)
-shape_drive k v q one h = record { driven_low = omega (arith, double k, h.driven_low); level_low = small; proper = proper' }
+shape_drive k v q one h = record { driven_low = omega (arith, pow-add 2 k 1, h.driven_low); level_low = small; proper = λ i e. proper' i e (cases_lt i k) (cases_eq i k) }
   where
-    times : v * 2 ^ k ≤ 2 ^ k
-    times = go v one
-      where
-        go : (v : ℕ) → v ≤ 1 → v * 2 ^ k ≤ 2 ^ k
-        go zero l = omega arith
-        go (suc zero) l = omega arith
-        go (suc (suc v)) l = absurd (omega arith)
+    times : (v : ℕ) → v ≤ 1 → v * 2 ^ k ≤ 2 ^ k
+    times zero l = omega arith
+    times (suc zero) l = omega arith
+    times (suc (suc v)) l = absurd (omega arith)
 
     small : q.level + v * 2 ^ k < 2 ^ (k + 1)
-    small = omega (arith, double k, h.level_low, times)
+    small = omega (arith, pow-add 2 k 1, h.level_low, times v one)
 
-    proper' : (i : ℕ) → (q.driven + 2 ^ k) / 2 ^ i % 2 ≡ 0 → (q.level + v * 2 ^ k) / 2 ^ i % 2 ≡ 0
-    proper' i e = go (cases_lt i k) (cases_eq i k)
-      where
-        lower : i < k → (q.level + v * 2 ^ k) / 2 ^ i % 2 ≡ 0
-        lower l =
-            let j : ℕ = k - i - 1 in
-            let at : k ≡ i + suc j = omega arith in
-            let d0 : q.driven / 2 ^ i % 2 ≡ 0 = sym (bit_below q.driven 1 i j) ∙ ap (λ (x : ℕ). (q.driven + 1 * 2 ^ x) / 2 ^ i % 2) (sym at) ∙ ap (λ (x : ℕ). (q.driven + x) / 2 ^ i % 2) (one-mul (2 ^ k)) ∙ e in
-            ap (λ (x : ℕ). (q.level + v * 2 ^ x) / 2 ^ i % 2) at ∙ bit_below q.level v i j ∙ h.proper i d0
+    -- the bits below the place that is added
+    low : (word w place i : ℕ) → place ≡ w * 2 ^ k → i < k → (word + place) / 2 ^ i % 2 ≡ word / 2 ^ i % 2
+    low word w place i e l =
+        let sum : word + place ≡ w * 2 ^ k + word = omega arith in
+        ap (λ (x : ℕ). x / 2 ^ i % 2) sum ∙ bit_at_cat_low w k word i l
 
-        here : i ≡ k → ⊥
-        here same =
-            let one_in : (q.driven + 1 * 2 ^ k) / 2 ^ k ≡ q.driven / 2 ^ k + 1 = add-mul-div_right q.driven 1 (pow_pos k) in
-            let none : q.driven / 2 ^ k ≡ 0 = div-eq_of_lt h.driven_low in
-            let f : (q.driven + 2 ^ k) / 2 ^ k % 2 ≡ 0 = subst (λ (x : ℕ). (q.driven + 2 ^ k) / 2 ^ x % 2 ≡ 0) same e in
-            let g : (q.driven + 2 ^ k) / 2 ^ k ≡ 1 = ap (λ (x : ℕ). (q.driven + x) / 2 ^ k) (sym (one-mul (2 ^ k))) ∙ one_in ∙ ap (λ (x : ℕ). x + 1) none in
-            let z : ◌≡◌ {A = ℕ} 1 0 = ap (λ (x : ℕ). x % 2) (sym g) ∙ f in
-            omega arith
+    placed : (i : ℕ) → i ≡ k → (q.driven + 2 ^ k) / 2 ^ i % 2 ≡ 1
+    placed i same =
+        let sum : q.driven + 2 ^ k ≡ 1 * 2 ^ k + q.driven = omega arith in
+        let first : i - k ≡ 0 = omega arith in
+        ap (λ (x : ℕ). x / 2 ^ i % 2) sum ∙ bit_at_cat_high 1 k q.driven i h.driven_low (omega arith) ∙ ap (λ (x : ℕ). 1 / 2 ^ x % 2) first
 
-        go : (i < k) ⊎ (k ≤ i) → (i ≡ k) ⊎ (i ≡ k → ⊥) → (q.level + v * 2 ^ k) / 2 ^ i % 2 ≡ 0
-        go (inl l) c = lower l
-        go (inr l) (inl same) = absurd (here same)
-        go (inr l) (inr ne) = bit_above (q.level + v * 2 ^ k) (k + 1) i small (omega (arith, strict l ne))
-          where
-            strict : k ≤ i → (i ≡ k → ⊥) → k < i
-            strict l ne = omega arith
+    proper' : (i : ℕ) → (q.driven + 2 ^ k) / 2 ^ i % 2 ≡ 0 → (i < k) ⊎ (k ≤ i) → (i ≡ k) ⊎ (i ≡ k → ⊥) → (q.level + v * 2 ^ k) / 2 ^ i % 2 ≡ 0
+    proper' i e (inl l) c = low q.level v (v * 2 ^ k) i refl l ∙ h.proper i (sym (low q.driven 1 (2 ^ k) i (omega arith) l) ∙ e)
+    proper' i e (inr l) (inl same) = absurd (omega (arith, placed i same))
+    proper' i e (inr l) (inr ne) = bit_at_above (q.level + v * 2 ^ k) (k + 1) i small (omega arith)
 
 -- A fact about how far a visit has come lasts to its end, if it holds at the start and each step keeps it: a cube that shows,
 -- a cube that does not, and a try for which no budget is left.

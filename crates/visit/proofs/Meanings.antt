@@ -2,6 +2,7 @@
 use Rattle.std.proofs.Common.{◌≡◌, ℕ, ◌-◌, ◌/◌, ◌%◌, ◌^◌, ◌<◌, ◌≤◌, Bool, true, false, cond, eqb, ◌⊎◌, List, length, Some, None, Option, sym, refl, ap, ◌∙◌, subst, inl, inr, true≢false, arith}
 use lib.Count.{ones}
 use Rattle.std.proofs.lemmas.Nat.{pow_pos, mod_below}
+use Rattle.std.proofs.lemmas.Nat.Bits.{bit_at_above, bit_at_ones}
 use Rattle.std.proofs.lemmas.Bool.{cases_lt}
 use Rattle.values.specs.Pairs.{Pairs}
 use Rattle.values.specs.Kind.{Kind, Lawful}
@@ -10,11 +11,11 @@ use Rattle.faults.specs.declared.fault.Fault.{Fault}
 use Rattle.faults.specs.Cubes.{Cube, Within}
 use Rattle.simulator.specs.declared.verdict.Verdict.{Verdict}
 use Rattle.simulator.specs.declared.verdict.Verdict.TheVariants.{Shows, Still, Unsure}
-use Rattle.simulator.specs.Detection.{some_shows, verdict, detected, quiet, detects, Fills}
-use Rattle.simulator.proofs.Telling.{shown_are_tests, quiet_detect_nothing, vectors_are_shown}
+use Rattle.simulator.specs.Detection.{some_shows, verdict, detected, is_still, detects, Fills}
+use Rattle.simulator.proofs.Telling.{shown_are_tests, still_detect_nothing, vectors_are_shown}
 use Rattle.visit.specs.Visiting.{Progress, visited, answered, answer}
 use Rattle.visit.specs.Meaning.{Test, Means}
-use Rattle.visit.proofs.Words.{cut_bit, past_bit, bit_cut, bit_cut_set, ones_bit, bit_ones_set}
+use Rattle.visit.proofs.Words.{cut_bit, bit_cut, set_below}
 use Rattle.visit.proofs.Finding.{AtMost, cut, cut_ones, visit_finds}
 use Rattle.visit.proofs.Holding.{Shape, Good, visit_good}
 use Rattle.visit.proofs.Inputs.{simulated_cut}
@@ -29,7 +30,7 @@ cut_shape k q w = record {
   where
     go : (i : ℕ) → q.driven % 2 ^ k / 2 ^ i % 2 ≡ 0 → (i < k) ⊎ (k ≤ i) → q.level % 2 ^ k / 2 ^ i % 2 ≡ 0
     go i e (inl l) = cut_bit q.level k i l ∙ w i (sym (cut_bit q.driven k i l) ∙ e)
-    go i e (inr l) = past_bit (q.level % 2 ^ k) k i (mod_below q.level (2 ^ k) (pow_pos k)) l
+    go i e (inr l) = bit_at_above (q.level % 2 ^ k) k i (mod_below q.level (2 ^ k) (pow_pos k)) l
 
 module _ (K : Kind) (M : Pairs → Type 0) (l : Lawful K M) (c : Circuit) (f : Fault) where
   abbrev inputs : ℕ
@@ -39,33 +40,33 @@ module _ (K : Kind) (M : Pairs → Type 0) (l : Lawful K M) (c : Circuit) (f : F
   judge = verdict K c (Some f)
 
   judge_shows : (q : Cube) → judge q ≡ Shows → detected K c (Some f) q ≡ true
-  judge_shows q e = go (detected K c (Some f) q) (quiet K c (Some f) q) e
+  judge_shows q e = go (detected K c (Some f) q) (is_still K c (Some f) q) e
     where
       go : (a b : Bool) → cond a Shows (cond b Still Unsure) ≡ Shows → a ≡ true
       go true b e = refl
-      go false true e = absurd (let z : ◌≡◌ {A = ℕ} 0 1 = cc in omega arith)
-      go false false e = absurd (let z : ◌≡◌ {A = ℕ} 0 1 = cc in omega arith)
+      go false true e = cc
+      go false false e = cc
 
-  judge_still : (q : Cube) → judge q ≡ Still → quiet K c (Some f) q ≡ true
-  judge_still q e = go (detected K c (Some f) q) (quiet K c (Some f) q) e
+  judge_still : (q : Cube) → judge q ≡ Still → is_still K c (Some f) q ≡ true
+  judge_still q e = go (detected K c (Some f) q) (is_still K c (Some f) q) e
     where
       go : (a b : Bool) → cond a Shows (cond b Still Unsure) ≡ Still → b ≡ true
-      go true b e = absurd (let z : ◌≡◌ {A = ℕ} 0 1 = cc in omega arith)
+      go true b e = cc
       go false true e = refl
-      go false false e = absurd (let z : ◌≡◌ {A = ℕ} 0 1 = cc in omega arith)
+      go false false e = cc
 
   shows_judged : (q : Cube) → detected K c (Some f) q ≡ true → judge q ≡ Shows
-  shows_judged q h = ap (λ (b : Bool). cond b Shows (cond (quiet K c (Some f) q) Still Unsure)) h
+  shows_judged q h = ap (λ (b : Bool). cond b Shows (cond (is_still K c (Some f) q) Still Unsure)) h
 
   -- the cube's own levels fill it in, and each of its cuts
   fills_cut : (q : Cube) (k : ℕ) → Fills q.level (cut k q)
-  fills_cut q k i h = sym (bit_cut q.level k i (bit_cut_set q.driven k i h))
+  fills_cut q k i h = sym (bit_cut q.level k i (set_below (q.driven % 2 ^ k) k i (mod_below q.driven (2 ^ k) (pow_pos k)) h))
 
   still_misses : (q : Cube) (k : ℕ) → judge (cut k q) ≡ Still → judge q ≡ Shows → ⊥
   still_misses q k s h =
       true≢false
       (sym (shown_are_tests K M l c (Some f) q q.level (judge_shows q h) (λ i e. refl))
-      ∙ quiet_detect_nothing K M l c (Some f) (cut k q) q.level (judge_still (cut k q) s) (fills_cut q k))
+      ∙ still_detect_nothing K M l c (Some f) (cut k q) q.level (judge_still (cut k q) s) (fills_cut q k))
 
   shown_test : (q : Cube) → judge q ≡ Shows → Test c f q
   shown_test q h v fills = shown_are_tests K M l c (Some f) q v (judge_shows q h) fills
@@ -82,16 +83,16 @@ module _ (K : Kind) (M : Pairs → Type 0) (l : Lawful K M) (c : Circuit) (f : F
   whole_within v i e = go (cases_lt i inputs)
     where
       go : (i < inputs) ⊎ (inputs ≤ i) → v % 2 ^ inputs / 2 ^ i % 2 ≡ 0
-      go (inl l) = absurd (let z : ◌≡◌ {A = ℕ} 1 0 = sym (ones_bit inputs i l) ∙ e in omega arith)
-      go (inr l) = past_bit (v % 2 ^ inputs) inputs i (mod_below v (2 ^ inputs) (pow_pos inputs)) l
+      go (inl l) = absurd (omega (arith, bit_at_ones inputs i l))
+      go (inr l) = bit_at_above (v % 2 ^ inputs) inputs i (mod_below v (2 ^ inputs) (pow_pos inputs)) l
 
   whole_fills : (v : ℕ) → Fills v (whole v)
   unfolding whole
-  whole_fills v i h = sym (bit_cut v inputs i (bit_ones_set inputs i h))
+  whole_fills v i h = sym (bit_cut v inputs i (set_below (2 ^ inputs - 1) inputs i (omega (arith, pow_pos inputs)) h))
 
   whole_shown : (v : ℕ) → detects c (Some f) v ≡ true → detected K c (Some f) (whole v) ≡ true
   unfolding whole
-  whole_shown v h = vectors_are_shown K M l c (Some f) (whole v) v (whole_fills v) (λ i l. ap (λ (x : ℕ). eqb x 1) (ones_bit inputs i l)) h
+  whole_shown v h = vectors_are_shown K M l c (Some f) (whole v) v (whole_fills v) (λ i l. ap (λ (x : ℕ). eqb x 1) (bit_at_ones inputs i l)) h
 
   -- a visit that is not spent holds a cube that no shown cube beats
   finds : (budget : ℕ) → (visited judge budget inputs).spent ≡ false → (t : Cube) → Within t.driven t.level

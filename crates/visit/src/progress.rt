@@ -33,8 +33,7 @@ impl Progress {
     pub fn is_beaten_by(&self, cube: Cube) -> bool
         ensures { result ≡ fewer cube self.now.best }
     {
-        self.best
-            .is_none_or(|best| cube.driven().count_ones() < best.driven().count_ones())
+        self.best.is_none_or(|best| cube.driven().count_ones() < best.driven().count_ones())
     }
 
     // The answer of a visit that ended so.

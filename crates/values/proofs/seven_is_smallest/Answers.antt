@@ -1,5 +1,7 @@
-use Rattle.values.specs.KindLaws.{seven_smallest}
+use Rattle.std.proofs.Common.{refl}
+use Rattle.values.specs.Seven.{seven, seven_sets}
+use Rattle.values.specs.Laws.ByTest.{smallest_by_test}
 use Rattle.values.proofs.seven_is_smallest.Goals as goal
 
 pub returns : goal.returns
-returns c = seven_smallest
+returns c = smallest_by_test seven_sets seven refl

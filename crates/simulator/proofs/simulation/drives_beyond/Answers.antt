@@ -6,11 +6,11 @@ use Rattle.simulator.proofs.simulation.drives_beyond.Goals as goal
 
 pub returns : goal.returns
 returns c =
-    let model = c.args.circuit.now in
-    let q = c.args.cube in
-    let value : ltb 0 c.unwrap_or.result ≡ drives_beyond model q =
+    let circuit = c.args.circuit.now in
+    let cube = c.args.cube in
+    let value : ltb 0 c.unwrap_or.result ≡ drives_beyond circuit cube =
     ap (ltb 0) c.unwrap_or.ensures
     ∙ past_bits c.driven.result c.input_count.result c.checked_shr-past.result c.driven.type_inv c.checked_shr-past.ensures
     ∙ ap (leb (2 ^ c.input_count.result)) c.driven.ensures
-    ∙ ap (λ (n : ℕ). leb (2 ^ n) c.args.cube.driven) c.input_count.ensures.value in
-    record { value = value; rule = Decides-at (ltb 0 c.unwrap_or.result) (drives_beyond model q) value (beyond_decides model q (omega (arith, c.driven.ensures))) }
+    ∙ ap (λ (n : ℕ). leb (2 ^ n) cube.driven) c.input_count.ensures.value in
+    record { value = value; rule = Decides-at (ltb 0 c.unwrap_or.result) (drives_beyond circuit cube) value (beyond_decides circuit cube (omega (arith, c.driven.ensures))) }

@@ -17,9 +17,9 @@ judge-requires g c = λ k d h. grind (arith, common_steps, outputs_below c.args.
 pub returns : goal.returns
 returns g c =
     let v = g.V.ValueKind in
-    let model = c.args.circuit.now in
-    let f = c.args.socket.now.fault in
-    let q = c.args.cube in
+    let circuit = c.args.circuit.now in
+    let fault = c.args.socket.now.fault in
+    let cube = c.args.cube in
     let before = c.args.row.now in
     let inputs = c.input_count-inputs.result in
     let lines = c.line_count.result in
@@ -27,14 +27,14 @@ returns g c =
     let worked = c.settle.new.row in
     let first : length (take inputs (take lines before)) ≡ inputs = grind (arith, common_steps) in
     let front : take inputs (driven ++ drop inputs (take lines before)) ≡ driven = grind (arith, common_steps) in
-    let whole : take (line_count model) (worked ++ drop lines before) ≡ worked = grind (arith, common_steps) in
-    let rest : drop (line_count model) (worked ++ drop lines before) ≡ drop (line_count model) before = grind (arith, common_steps, drop-append-drop) in
-    let sets : map v.meaning worked ≡ simulated v.kind model f q = cc in
-    let is : c.judge.result ≡ verdict v.kind model f q = c.judge.ensures ∙ rw (sets, c.outputs.ensures.value) refl in
-    let answer : Ok c.judge.result ≡ simulation v.kind model f q (length before) =
-    ap Ok is ∙ ap (result_map_both (λ _. verdict v.kind model f q) (λ (e : FolderRefusal). e)) c.in_ok-allow_simulation.ensures in
+    let whole : take (line_count circuit) (worked ++ drop lines before) ≡ worked = grind (arith, common_steps) in
+    let rest : drop (line_count circuit) (worked ++ drop lines before) ≡ drop (line_count circuit) before = grind (arith, common_steps, drop-append-drop) in
+    let sets : map v.meaning worked ≡ simulated v.kind circuit fault cube = cc in
+    let is : c.judge.result ≡ verdict v.kind circuit fault cube = c.judge.ensures ∙ rw (sets, c.outputs.ensures.value) refl in
+    let answer : Ok c.judge.result ≡ simulation v.kind circuit fault cube (length before) =
+    ap Ok is ∙ ap (result_map_both (λ _. verdict v.kind circuit fault cube) (λ (e : FolderRefusal). e)) c.in_ok-allow_simulation.ensures in
     record {
       answer = answer;
       row = record { front = ap (map v.meaning) whole ∙ sets; rest = rest };
-      tells = subst (Tells model f q) (sym is) (verdict_tells v.kind v.family g.met.V.ValueKind.lawful model f q);
+      tells = subst (Tells circuit fault cube) (sym is) (verdict_tells v.kind v.family g.met.V.ValueKind.lawful circuit fault cube);
     }

@@ -6,23 +6,19 @@ use Rattle.visit.proofs.known.known_answers.Goals as goal
 pub returns : goal.returns
 unfolding lib.Count.ones
 returns c = record {
-  five_open_between = refl;
-  five_open_last = refl;
-  seven_and_open = refl;
-  seven_stick_open = refl;
-  nine_stick_open = refl;
-  R_s_0_nine = refl;
-  R_s_0_seven = refl;
-  R_s_0_five = refl;
-  R_s_1_nine = refl;
-  R_s_1_seven = refl;
-  R_s_1_five = refl;
-  R_y_2_0_nine = refl;
-  P_p_0 = (refl, refl, refl);
-  M_s_0 = (refl, refl, refl);
-  M_s_0_in_5 = (refl, refl, refl);
-  M_s_0_in_6 = (refl, refl, refl);
-  M_s_0_in_20 = (refl, refl, refl);
+  values = record { five_open_between = refl; five_open_last = refl; seven_and_open = refl; seven_stick_open = refl; nine_stick_open = refl };
+  absorbing_s_0_nine = refl;
+  absorbing_s_0_seven = refl;
+  absorbing_s_0_five = refl;
+  absorbing_s_1_nine = refl;
+  absorbing_s_1_seven = refl;
+  absorbing_s_1_five = refl;
+  absorbing_y_2_0_nine = refl;
+  masking_p_0 = (refl, refl, refl);
+  multiplexer_s_0 = (refl, refl, refl);
+  multiplexer_s_0_in_5 = (refl, refl, refl);
+  multiplexer_s_0_in_6 = (refl, refl, refl);
+  multiplexer_s_0_in_20 = (refl, refl, refl);
   blank_a_0 = (refl, refl, refl);
   blank_a_1 = (refl, refl, refl);
 }

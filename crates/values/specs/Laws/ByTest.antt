@@ -7,8 +7,8 @@ use Rattle.values.specs.Pairs.{Pair, Pairs, only, Single}
 use Rattle.values.specs.Values.{Gates, pairs}
 use Rattle.values.specs.Kind.{Kind, Lawful, LawfulGates, LawfulStick}
 use Rattle.values.specs.Made.{made_by_one, made_by_two, Among, Smallest, SmallestGates, SmallestAnswers, implies, holds_all}
-use Rattle.values.specs.Tests.{every_at, same_set, same_set_is, among, among_is, single, single_is, single_test, inhabited, inhabited_is, holds_member, holds_test, implied}
-use Rattle.values.specs.Members.{made_one_has, made_two_has}
+use Rattle.values.specs.Laws.Tests.{every_at, same_set, same_set_is, among, among_is, single, single_is, single_test, inhabited, inhabited_is, holds_member, holds_test, implied}
+use Rattle.values.specs.Laws.Members.{made_one_has, made_two_has}
 
 -- answers that are the smallest
 
