@@ -35,8 +35,10 @@ impl Entry {
         self.fault
     }
 
+    // What is known of the fault. Its tries are no more than a budget allows.
     pub fn state(&self) -> State
-        ensures { result ≡ self.now.state }
+        ensures value { result ≡ self.now.state }
+        ensures few { tries result ≤ 1000000 }
     {
         self.state
     }

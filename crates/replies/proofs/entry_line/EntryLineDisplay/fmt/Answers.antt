@@ -22,7 +22,7 @@ returns-clause-writes g c = λ plain ok.
       c.from-level.ensures,
       digit c.level.result,
       c.level.ensures,
-      c.state-state.ensures,
+      c.state-state.ensures.value,
       c.cube.ensures,
       c.input_count.ensures.value,
       c.count-count.ensures,
