@@ -1,6 +1,12 @@
--- What a call that simulates does to the row and the socket that its caller lends it, granted or refused.
-use Rattle.std.specs.Prelude.{◌≡◌, List, length, None, Result, MatchResult}
+-- The row and the socket that a caller lends to a call that simulates: what the row must have, and what the call does to both,
+-- granted or refused.
+use Rattle.std.specs.Prelude.{◌≡◌, ◌≤◌, List, length, None, Result, MatchResult}
+use Rattle.circuit.specs.Model.{Circuit, line_count}
 use Rattle.simulator.specs.declared.socket.Socket.{Socket}
+
+-- The row has a place for each line of the circuit.
+abbrev pub HasRoom : {V : Type 0} → Circuit → List V → Type 0
+HasRoom c row = line_count c ≤ length row
 
 -- The row keeps its length, though its values may be others; and refused, it is as it was.
 abbrev pub RowKept : {X E V : Type 0} → Result X E → List V → List V → Type 0

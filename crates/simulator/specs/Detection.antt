@@ -1,5 +1,5 @@
 -- Which cubes are shown to detect a fault, and which vectors do detect it.
-use Rattle.std.specs.Prelude.{◌≡◌, ℕ, ◌/◌, ◌%◌, ◌^◌, ◌<◌, Bool, true, false, cond, List, length, None, Option, ◌==◌, slice_index_or}
+use Rattle.std.specs.Prelude.{◌≡◌, ℕ, ◌/◌, ◌%◌, ◌^◌, ◌<◌, Bool, true, false, cond, List, length, None, Option, ◌==◌, slice_index_or, All}
 use Rattle.std.specs.List.{list_all, list_any}
 use Rattle.values.specs.Pairs.{Pair, Pairs, pair, shows, still, only}
 use Rattle.values.specs.Values.{differs, faulty_levels}
@@ -26,6 +26,10 @@ simulated K c f q = lines K.values c f (input_value K q)
 -- the set of a line, as a row has it
 abbrev pub set_of : List Pairs → ℕ → Pairs
 set_of row line = slice_index_or row line (only false false)
+
+-- each of these is a line of the row
+abbrev pub AreLines : {V : Type 0} → List ℕ → List V → Type 0
+AreLines lines row = All (λ (line : ℕ). line < length row) lines
 
 -- does some output of the row show?
 abbrev pub some_shows : List Pairs → List ℕ → Bool

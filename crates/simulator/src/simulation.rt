@@ -1,10 +1,10 @@
 // Simulation of a circuit under a cube.
-ghost use Rattle.std.specs.Prelude.{◌≡◌, ℕ, ◌+◌, ◌<◌, ◌≤◌, true, List, [], map, length, take, Some, None, Decides, All};
+ghost use Rattle.std.specs.Prelude.{◌≡◌, ◌+◌, ◌<◌, true, List, [], map, length, take, Some, None, Decides};
 ghost use Rattle.circuit.specs.Model.{Gate as GateModel};
 ghost use Rattle.circuit.specs.Lawful.{gate_fits, each_after};
 ghost use Rattle.circuit.specs.Tables.{gate_model};
 ghost use Rattle.simulator.specs.Lines.{inputs_row, gate_value, gates_after};
-ghost use Rattle.simulator.specs.Detection.{input_value, set_of, some_shows, all_still, judged};
+ghost use Rattle.simulator.specs.Detection.{input_value, set_of, AreLines, some_shows, all_still, judged};
 ghost use Rattle.simulator.specs.Simulation.{drives_beyond, DrivesBeyond, row_allowed, simulation_allowed, Simulates};
 ghost use Rattle.simulator.specs.Laws.{Telling};
 
@@ -57,7 +57,7 @@ fn value_at<V: ValueKind>(row: &[V], line: usize) -> V
 
 // Whether some output's value shows.
 fn some_shows<V: ValueKind>(outputs: &[usize], row: &[V]) -> bool
-    requires { All (λ (o : ℕ). o < length row.now) outputs.now }
+    requires { AreLines outputs.now row.now }
     ensures { result ≡ some_shows (map V.ValueKind.meaning row.now) outputs.now }
 {
     outputs.iter().any(|output| value_at(row, *output).shows())
@@ -65,7 +65,7 @@ fn some_shows<V: ValueKind>(outputs: &[usize], row: &[V]) -> bool
 
 // Whether every output's value is still.
 fn all_still<V: ValueKind>(outputs: &[usize], row: &[V]) -> bool
-    requires { All (λ (o : ℕ). o < length row.now) outputs.now }
+    requires { AreLines outputs.now row.now }
     ensures { result ≡ all_still (map V.ValueKind.meaning row.now) outputs.now }
 {
     outputs.iter().all(|output| value_at(row, *output).still())
@@ -73,7 +73,7 @@ fn all_still<V: ValueKind>(outputs: &[usize], row: &[V]) -> bool
 
 // The verdict on the lines of a row.
 fn judge<V: ValueKind>(outputs: &[usize], row: &[V]) -> Verdict
-    requires { All (λ (o : ℕ). o < length row.now) outputs.now }
+    requires { AreLines outputs.now row.now }
     ensures { result ≡ judged (map V.ValueKind.meaning row.now) outputs.now }
 {
     if some_shows(outputs, row) {

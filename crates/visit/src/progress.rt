@@ -1,6 +1,5 @@
 // How far a visit has come.
 ghost use Rattle.std.specs.Prelude.{◌≡◌};
-ghost use Rattle.std.specs.Option.{option_map};
 ghost use Rattle.visit.specs.Visiting.{fewer, at_start, progress_answer};
 ghost use Rattle.visit.specs.Visits.{going_on, left};
 

@@ -1,9 +1,8 @@
 // The visit: depth first, inputs in rising order, 0 before 1.
 ghost use Rattle.std.specs.Prelude.{◌≡◌, ◌+◌, ◌≤◌, false, length, if◌then◌else◌};
-ghost use Rattle.circuit.specs.Model.{line_count};
 ghost use Rattle.faults.specs.Cubes.{nothing_driven};
 ghost use Rattle.simulator.specs.Simulation.{drives_beyond};
-ghost use Rattle.simulator.specs.Callers.{RowKept, SocketEmptied};
+ghost use Rattle.simulator.specs.Callers.{HasRoom, RowKept, SocketEmptied};
 ghost use Rattle.visit.specs.Visiting.{drive};
 ghost use Rattle.visit.specs.Settings.{verdict_in, input_count, below_branch, branch_met};
 ghost use Rattle.visit.specs.Visits.{going_on, left, Visits};
@@ -56,7 +55,7 @@ impl Setting<'_> {
     // The verdict on a cube of the circuit's inputs, in a row with room for each line.
     fn verdict_on<V: ValueKind>(&self, cube: Cube, row: &mut [V]) -> Verdict
         requires inside { drives_beyond self.now.circuit.now cube ≡ false }
-        requires room { line_count self.now.circuit.now ≤ length row.old }
+        requires room { HasRoom self.now.circuit.now row.old }
         ensures { result ≡ verdict_in V.ValueKind.kind self.now cube }
     {
         match simulate(self.circuit, cube, self.socket, row) {
@@ -73,7 +72,7 @@ impl Setting<'_> {
         progress: &mut Progress,
         row: &mut [V],
     ) -> Result<(), BudgetSpent>
-        requires room { line_count self.now.circuit.now ≤ length row.old }
+        requires room { HasRoom self.now.circuit.now row.old }
         requires inside { branch.next ≤ input_count self.now }
         ensures { left progress.new result ≡ branch_met V.ValueKind.kind self.now branch (going_on progress.old) }
     {
@@ -102,7 +101,7 @@ impl Setting<'_> {
         progress: &mut Progress,
         row: &mut [V],
     ) -> Result<(), BudgetSpent>
-        requires room { line_count self.now.circuit.now ≤ length row.old }
+        requires room { HasRoom self.now.circuit.now row.old }
         requires inside { branch.next ≤ input_count self.now }
         ensures { left progress.new result ≡ below_branch V.ValueKind.kind self.now branch (going_on progress.old) }
     {
