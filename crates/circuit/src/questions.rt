@@ -61,7 +61,7 @@ impl Tables {
     }
 
     // Whether that line is among the outputs.
-    pub fn lists(&self, line: usize) -> bool
+    pub fn has_output(&self, line: usize) -> bool
         ensures { result ≡ list_any (nat_eq line) (tables_model self.now).outputs }
     {
         self.outputs.contains(&line)

@@ -3,19 +3,12 @@ ghost use Rattle.std.specs.Prelude.{◌≡◌, Decides};
 ghost use Rattle.faults.specs.Faults.{fault_made, same_fault};
 ghost use Rattle.faults.specs.declared.fault.Fault.{Fault as FaultModel};
 
+use crate::stuck_at::StuckAt;
 use circuit::Circuit;
 use refusals::FolderRefusal;
 
-// The numbers that a fault is asked for by. A circuit may lack such a line or pin, and a level above 1 is none.
-#[derive(Clone, Copy, Debug, PartialEq, Eq)]
-pub struct StuckAt {
-    pub line: usize,
-    pub pin: usize,
-    pub level: usize,
-}
-
 // One pin of one line keeps one level, whatever drives it.
-#[derive(Clone, Copy, PartialEq, Eq)]
+#[derive(Clone, Copy, Debug, PartialEq, Eq)]
 pub struct Fault {
     line: usize,
     // 0 is the line itself, and k the k-th operand of its gate

@@ -1,10 +1,9 @@
 // Covering: the cube of one entry against the faults of the others.
 ghost use Rattle.std.specs.Prelude.{◌≡◌, ◌≤◌, false, map, length, Some, None};
 ghost use Rattle.std.specs.List.{count_by};
-ghost use Rattle.circuit.specs.Model.{line_count};
 ghost use Rattle.simulator.specs.Detection.{detected, verdict};
 ghost use Rattle.simulator.specs.Simulation.{drives_beyond};
-ghost use Rattle.simulator.specs.Callers.{RowKept, SocketStaysEmpty};
+ghost use Rattle.simulator.specs.Callers.{HasRoom, RowKept, SocketStaysEmpty};
 ghost use Rattle.folder.specs.Transitions.{Obeys};
 ghost use Rattle.folder.specs.Covering.{fewest_cube, is_covered, marked, cover_entry};
 
@@ -40,7 +39,7 @@ struct Covering<'a> {
 impl Covering<'_> {
     // Whether the kind shows the cube to detect the fault.
     fn detects<V: ValueKind>(&self, fault: Fault, socket: &mut Socket, row: &mut [V]) -> bool
-        requires { line_count self.now.circuit.now ≤ length row.old }
+        requires { HasRoom self.now.circuit.now row.old }
         ensures value { result ≡ detected V.ValueKind.kind self.now.circuit.now (Some fault) self.now.cube }
         ensures empty { socket.new.fault ≡ None }
     {
@@ -53,7 +52,7 @@ impl Covering<'_> {
     // Marks the entry as covered, if it is open or spent and the kind shows the cube to detect its fault; whether it was
     // marked.
     fn mark<V: ValueKind>(&self, entry: &mut Entry, socket: &mut Socket, row: &mut [V]) -> bool
-        requires { line_count self.now.circuit.now ≤ length row.old }
+        requires { HasRoom self.now.circuit.now row.old }
         ensures value { result ≡ is_covered V.ValueKind.kind self.now.circuit.now self.now.cube entry.old }
         ensures marks { entry.new ≡ marked V.ValueKind.kind self.now.circuit.now self.now.number self.now.cube entry.old }
         ensures socket { socket.old.fault ≡ None → socket.new.fault ≡ None }
@@ -73,7 +72,7 @@ impl Covering<'_> {
         socket: &mut Socket,
         row: &mut [V],
     ) -> usize
-        requires { line_count self.now.circuit.now ≤ length row.old }
+        requires { HasRoom self.now.circuit.now row.old }
         ensures value { result ≡ count_by (is_covered V.ValueKind.kind self.now.circuit.now self.now.cube) entries.old }
         ensures marks { entries.new ≡ map (marked V.ValueKind.kind self.now.circuit.now self.now.number self.now.cube) entries.old }
         ensures socket { socket.old.fault ≡ None → socket.new.fault ≡ None }

@@ -3,7 +3,7 @@ use crate::state::State;
 use faults::Fault;
 use std::marker::Model;
 
-#[derive(Clone, Copy, PartialEq, Eq)]
+#[derive(Clone, Copy, Debug, PartialEq, Eq)]
 pub struct Entry {
     pub(crate) fault: Fault,
     pub(crate) state: State,

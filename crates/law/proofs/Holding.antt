@@ -10,7 +10,7 @@ use Rattle.values.specs.Kind.{Kind, Lawful}
 use Rattle.circuit.specs.Model.{Circuit}
 use Rattle.faults.specs.declared.fault.Fault.{Fault}
 use Rattle.faults.specs.Cubes.{Cube}
-use Rattle.faults.specs.declared.fault.StuckAt.{StuckAt}
+use Rattle.faults.specs.declared.stuck_at.StuckAt.{StuckAt}
 use Rattle.faults.specs.Faults.{fault_made}
 use Rattle.simulator.specs.Simulation.{simulation_allowed}
 use Rattle.visit.specs.declared.answer.Answer.{Answer}

@@ -164,7 +164,7 @@ impl<'a> Parser<'a> {
     {
         let line = self.line_of(word)?;
         let place = word.place;
-        if self.tables.lists(line) {
+        if self.tables.has_output(line) {
             return Err(CircuitRefusal::NameTaken { place }.into());
         }
         if self.tables.outputs.len() >= MOST_OUTPUTS {
