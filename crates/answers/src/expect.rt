@@ -1,4 +1,4 @@
-// One text and its answer.
+// One text and its answer. (The leave to fail a test and the heap stay two parameters: what only builds a text is given no leave to fail.)
 use circuit::Circuit;
 use faults::StuckAt;
 use reader::read;

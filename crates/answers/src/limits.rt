@@ -28,13 +28,9 @@ const OPERATORS: [Takes; 8] = [
 fn expect_count(rt: &impl Abort, heap: Global, operator: Takes, count: usize) -> Result<(), Fail> {
     let Takes(word, fewest, most) = operator;
     let mut text = format!(in heap; "(inputs a)\n(gate y ({word}")?;
-    for _ in 0..count.min(most) {
-        text.push_str(" a")?;
-    }
+    text.push_str(&" a".repeat(heap, count.min(most))?)?;
     let one_too_many = text.len() + 1;
-    for _ in most..count {
-        text.push_str(" a")?;
-    }
+    text.push_str(&" a".repeat(heap, count.saturating_sub(most))?)?;
     let closing = text.len();
     text.push_str("))\n(outputs y)\n")?;
     if count < fewest {
@@ -208,10 +204,16 @@ const FILLED: [Filled; 15] = [
     Filled("(inputs a)\n(outputs a)\n", "\n", 70000, 9, 65536),
 ];
 
-fn fill(rt: &impl Abort, text: &mut String, filler: &str, length: usize) -> Result<(), Fail> {
-    for _ in text.len()..length {
-        text.push_str(filler)?;
-    }
+// The text, filled up to that many bytes.
+fn fill(
+    rt: &impl Abort,
+    heap: Global,
+    text: &mut String,
+    filler: &str,
+    length: usize,
+) -> Result<(), Fail> {
+    let missing = length.saturating_sub(text.len());
+    text.push_str(&filler.repeat(heap, missing)?)?;
     assert_eq!(rt; text.len(), length);
     Ok(())
 }
@@ -222,7 +224,7 @@ fn long_texts(rt: HostRuntime) -> Result<(), Fail> {
     for case in &FILLED {
         let Filled(front, filler, length, number, place) = *case;
         let mut text = String::from_str(heap, front)?;
-        fill(&rt, &mut text, filler, length)?;
+        fill(&rt, heap, &mut text, filler, length)?;
         expect_refused(&rt, heap, text.as_bytes(), number, place)?;
     }
     let size = Size {
@@ -231,7 +233,7 @@ fn long_texts(rt: HostRuntime) -> Result<(), Fail> {
         outputs: 1,
     };
     let mut text = String::from_str(heap, "(inputs a)\n(outputs a)\n")?;
-    fill(&rt, &mut text, "?", 65536)?;
+    fill(&rt, heap, &mut text, "?", 65536)?;
     expect_granted(&rt, heap, text.as_bytes(), size, 23)
 }
 
@@ -280,7 +282,7 @@ fn largest_circuit(rt: HostRuntime) -> Result<(), Fail> {
         outputs: 64,
     };
     expect_granted(&rt, heap, text.as_bytes(), size, 43282)?;
-    fill(&rt, &mut text, " ", 65536)?;
+    fill(&rt, heap, &mut text, " ", 65536)?;
     expect_granted(&rt, heap, text.as_bytes(), size, 65536)?;
     expect_largest(&rt, &circuit_of(heap, text.as_str())?)?;
     text.push_str(" ")?;

@@ -19,7 +19,8 @@ const ABSORBED: &str = "(inputs a b)\n(gate p (and a b))\n(gate y (or a p))\n(ou
 const WIRE: &str = "(inputs a)\n(outputs a)\n";
 
 // A circuit, a fault by line, pin and level, a budget; and the state that the entry is in afterwards, with its cube's driven word
-// and level word and its tries. (A row of a table: fields with names would make ten lines of it.)
+// and level word and its tries. (A row of a table: fields with names would make ten lines of it. The state stands by its word and the
+// cube by its words, since a constant can hold no cube: its fields are its own crate's.)
 #[derive(Clone, Copy)]
 struct Search(
     &'static str,

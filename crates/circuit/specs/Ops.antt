@@ -2,7 +2,7 @@
 use Rattle.std.specs.Prelude.{◌≡◌, ◌≢◌, ℕ, cond, List, Some, None, codes, Option, Result, MatchResult}
 use Rattle.std.specs.Str.{bytes_eq}
 use Rattle.circuit.specs.declared.op.Op.{Op}
-use Rattle.circuit.specs.declared.op.UnknownOp.{UnknownOp}
+use Rattle.words.specs.declared.no_such_name.NoSuchName.{NoSuchName}
 use Rattle.circuit.specs.declared.op.Op.TheVariants.{And, Nand, Or, Nor, Xor, Xnor, Not, Buf}
 
 abbrev pub op_named : List ℕ → Option Op
@@ -28,7 +28,7 @@ op_word Not = codes "not"
 op_word Buf = codes "buf"
 
 -- the result is the operator that has the word for its name, or an error where none has
-abbrev pub Named : List ℕ → Result Op UnknownOp → Type 0
+abbrev pub Named : List ℕ → Result Op NoSuchName → Type 0
 Named word r =
     MatchResult r (λ op. (op_named word ≡ Some op) × (word ≡ op_word op))
     (λ _. (op_named word ≡ None) × ((op : Op) → word ≢ op_word op))

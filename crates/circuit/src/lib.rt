@@ -13,6 +13,6 @@ pub mod tables;
 pub use circuit::Circuit;
 pub use gate::Gate;
 pub use name::Name;
-pub use op::{Op, UnknownOp};
+pub use op::Op;
 pub use rules::{MOST_INPUTS, MOST_LINES, MOST_OUTPUTS};
 pub use tables::Tables;

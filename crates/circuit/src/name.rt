@@ -52,7 +52,8 @@ impl Name {
     }
 
     pub fn bytes(&self) -> &[u8]
-        ensures { result.now ≡ self.now }
+        ensures value { result.now ≡ self.now }
+        ensures shape { name_shape result.now ≡ true }
     {
         &self.bytes
     }
@@ -71,9 +72,6 @@ impl fmt::Display for Name {
     ghost output = { λ n. Some n };
 
     fn fmt<W: fmt::Write>(&self, f: &mut fmt::Formatter<W>) -> fmt::Result {
-        match str::from_utf8(&self.bytes) {
-            Ok(text) => f.write_str(text),
-            Err(_) => unreachable!(),
-        }
+        f.write_str(str::from_utf8(&self.bytes).unwrap())
     }
 }

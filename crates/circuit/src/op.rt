@@ -1,9 +1,9 @@
 // What a gate does with its operands.
-ghost use Rattle.std.specs.Prelude.{◌≡◌, Some, codes};
+ghost use Rattle.std.specs.Prelude.{◌≡◌, Some};
 ghost use Rattle.circuit.specs.Ops.{op_word, Named, fewest_operands, most_operands};
 
-use std::error::Error;
 use std::fmt;
+use words::NoSuchName;
 
 #[derive(Clone, Copy, Debug, PartialEq, Eq)]
 pub enum Op {
@@ -17,17 +17,13 @@ pub enum Op {
     Buf,
 }
 
-// A word that names no operator.
-#[derive(Clone, Copy, Debug, PartialEq, Eq)]
-pub struct UnknownOp;
-
 // The operator of that name.
 impl TryFrom<&[u8]> for Op {
-    type Error = UnknownOp;
+    type Error = NoSuchName;
 
     ghost try_from_gives = { λ word r. Named word.now r };
 
-    fn try_from(word: &[u8]) -> Result<Op, UnknownOp> {
+    fn try_from(word: &[u8]) -> Result<Op, NoSuchName> {
         match word {
             b"and" => Ok(Op::And),
             b"nand" => Ok(Op::Nand),
@@ -37,7 +33,7 @@ impl TryFrom<&[u8]> for Op {
             b"xnor" => Ok(Op::Xnor),
             b"not" => Ok(Op::Not),
             b"buf" => Ok(Op::Buf),
-            _ => Err(UnknownOp),
+            _ => Err(NoSuchName),
         }
     }
 }
@@ -59,16 +55,6 @@ impl fmt::Display for Op {
         })
     }
 }
-
-impl fmt::Display for UnknownOp {
-    ghost output = { λ _. Some (codes "the word names no operator") };
-
-    fn fmt<W: fmt::Write>(&self, f: &mut fmt::Formatter<W>) -> fmt::Result {
-        f.write_str("the word names no operator")
-    }
-}
-
-impl Error for UnknownOp {}
 
 impl Op {
     // The fewest operands of such a gate.

@@ -76,8 +76,8 @@ impl Circuit {
         self.tables.inputs.len()
     }
 
-    // Inputs and gates together. (This and the three questions after it pass on to the tables, which a caller may not have: with
-    // its tables in hand, one would ask each question through them.)
+    // Inputs and gates together. (This and the three questions after it are handed on to the tables. With a `tables()` in their place
+    // each caller would write one call more, and its proof speak of the tables that it got and not of the circuit.)
     pub fn line_count(&self) -> usize
         ensures { result ≡ line_count self.now }
     {

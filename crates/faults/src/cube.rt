@@ -1,4 +1,5 @@
-// A cube: which inputs are driven and to which level, bit i for input i. The other inputs are open.
+// A cube: which inputs are driven and to which level, bit i for input i. The other inputs are open. (Two words, since callers give
+// and take a cube as these.)
 use std::marker::Model;
 
 #[derive(Clone, Copy, Debug, PartialEq, Eq)]

@@ -7,7 +7,7 @@ use crate::stuck_at::StuckAt;
 use circuit::Circuit;
 use refusals::FolderRefusal;
 
-// One pin of one line keeps one level, whatever drives it.
+// One pin of one line keeps one level, whatever drives it. (The pin is a number, as job lines give it and listings write it.)
 #[derive(Clone, Copy, Debug, PartialEq, Eq)]
 pub struct Fault {
     line: usize,

@@ -23,7 +23,6 @@ fn has_fault(entries: &[Entry], fault: Fault) -> bool
 fn add(entries: &mut Vec<Entry>, fault: Fault) -> Result<usize, Refusal>
     ensures value { MatchResult result (λ n. n ≡ vec_len entries.old) (λ e. e ≡ Memory) }
     ensures items { entries.new.items ≡ (if is_ok result then entries.old.items ++ (opened fault ∷ []) else entries.old.items) }
-    ensures len { vec_len entries.new ≡ (if is_ok result then vec_len entries.old + 1 else vec_len entries.old) }
 {
     let number = entries.len();
     entries.push(Entry::new(fault))?;

@@ -54,7 +54,8 @@ impl Entry {
         }
     }
 
-    // The tries made, or the number of the entry that covers this one; 0 of an open entry.
+    // The tries made, or the number of the entry that covers this one; 0 of an open entry. (One number for the three, as a listing
+    // writes it.)
     pub fn count(&self) -> usize
         ensures { result ≡ state_count self.now.state }
     {

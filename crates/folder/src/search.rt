@@ -1,5 +1,5 @@
 // Searching an entry: the visit for its fault, and the answer filed.
-ghost use Rattle.std.specs.Prelude.{◌≡◌, ◌<◌, length, slice_set};
+ghost use Rattle.std.specs.Prelude.{◌≡◌, ◌<◌, ◌≤◌, length, IfOk, slice_set};
 ghost use Rattle.simulator.specs.Callers.{RowKept, SocketEmptied};
 ghost use Rattle.visit.specs.Visiting.{answer_tries};
 ghost use Rattle.folder.specs.Transitions.{Obeys};
@@ -48,6 +48,7 @@ impl Folder {
         row: &mut [V],
     ) -> Result<Answer, FolderRefusal>
         ensures table { Obeys (search_entry V.ValueKind.kind self.old number budget (length row.old)) self.old.table result self.new.table }
+        ensures within { IfOk result (λ a. answer_tries a ≤ budget) }
         ensures circuit { self.new.circuit ≡ self.old.circuit }
         ensures socket { SocketEmptied result socket.old socket.new }
         ensures row { RowKept result row.old row.new }

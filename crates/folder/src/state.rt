@@ -1,5 +1,5 @@
-// What is known of a fault. (The answers of a visit are cases of their own here: an entry has one of five states, each with a name
-// that a listing writes.)
+// What is known of a fault. (The answers of a visit are cases of their own here, and not one case that holds an answer: the project
+// has five states by name, and each `match` on one would look into two enums.)
 ghost use Rattle.std.specs.Prelude.{◌≡◌, Some};
 ghost use Rattle.folder.specs.Entries.{state_word};
 ghost use Rattle.folder.specs.Searching.{filed};

@@ -9,6 +9,7 @@ use Rattle.refusals.specs.declared.layers.FormRefusal.TheVariants.{Misplaced, Un
 use Rattle.refusals.specs.declared.layers.CircuitRefusal.TheVariants.{UnknownName}
 use Rattle.words.specs.Lexemes.{Lexeme, Opening, Closing, Word, LineEnd, TextEnd, Forbidden}
 use Rattle.words.specs.Spelling.{name_shape}
+use Rattle.words.specs.declared.no_such_name.NoSuchName.{NoSuchName}
 use Rattle.circuit.specs.Model.{line_named}
 use Rattle.jobs.specs.declared.job.Kind.{Kind}
 use Rattle.jobs.specs.declared.job.Kind.TheVariants.{Five, Seven, Nine}
@@ -16,8 +17,6 @@ use Rattle.jobs.specs.declared.job.Job.{Job}
 use Rattle.jobs.specs.declared.job.Job.TheVariants as job
 use Rattle.jobs.specs.declared.job.Head.{Head}
 use Rattle.jobs.specs.declared.job.Head.TheVariants as head
-use Rattle.jobs.specs.declared.job.UnknownKind.{UnknownKind}
-use Rattle.jobs.specs.declared.job.UnknownHead.{UnknownHead}
 use Rattle.jobs.specs.Numbers.{number_shape, number_value}
 
 -- what is due next in a job line
@@ -72,11 +71,11 @@ kind_named word =
     (cond (bytes_eq word (codes "nine")) (Some Nine) None))
 
 -- the word is the name of the head that was made of it, or names none
-abbrev pub NamesHead : List ℕ → Result Head UnknownHead → Type 0
+abbrev pub NamesHead : List ℕ → Result Head NoSuchName → Type 0
 NamesHead word r = MatchResult r (λ h. head_named word ≡ Some h) (λ _. head_named word ≡ None)
 
 -- the word is the name of the kind that was made of it, or names none
-abbrev pub NamesKind : List ℕ → Result Kind UnknownKind → Type 0
+abbrev pub NamesKind : List ℕ → Result Kind NoSuchName → Type 0
 NamesKind word r = MatchResult r (λ k. kind_named word ≡ Some k) (λ _. kind_named word ≡ None)
 
 -- What is due after a head, by the kind that was chosen; nothing where it may not come now. The kind comes first, and once.

@@ -5,6 +5,7 @@ ghost use Rattle.jobs.specs.JobLines.{NamesKind, NamesHead};
 
 use faults::StuckAt;
 use std::fmt;
+use words::NoSuchName;
 
 // A value kind, by its name.
 #[derive(Clone, Copy, Debug, PartialEq, Eq)]
@@ -40,42 +41,34 @@ pub struct JobLine {
     pub next: usize,
 }
 
-// A word that is the name of no kind.
-#[derive(Clone, Copy, Debug, PartialEq, Eq)]
-pub struct UnknownKind;
-
-// A word that no job line begins with.
-#[derive(Clone, Copy, Debug, PartialEq, Eq)]
-pub struct UnknownHead;
-
 // The kind of that name.
 impl TryFrom<&[u8]> for Kind {
-    type Error = UnknownKind;
+    type Error = NoSuchName;
 
     ghost try_from_gives = { λ word r. NamesKind word.now r };
 
-    fn try_from(word: &[u8]) -> Result<Kind, UnknownKind> {
+    fn try_from(word: &[u8]) -> Result<Kind, NoSuchName> {
         match word {
             b"five" => Ok(Kind::Five),
             b"seven" => Ok(Kind::Seven),
             b"nine" => Ok(Kind::Nine),
-            _ => Err(UnknownKind),
+            _ => Err(NoSuchName),
         }
     }
 }
 
 // The job that a line with that word asks for.
 impl TryFrom<&[u8]> for Head {
-    type Error = UnknownHead;
+    type Error = NoSuchName;
 
     ghost try_from_gives = { λ word r. NamesHead word.now r };
 
-    fn try_from(word: &[u8]) -> Result<Head, UnknownHead> {
+    fn try_from(word: &[u8]) -> Result<Head, NoSuchName> {
         match word {
             b"kind" => Ok(Head::Kind),
             b"fault" => Ok(Head::Fault),
             b"list" => Ok(Head::List),
-            _ => Err(UnknownHead),
+            _ => Err(NoSuchName),
         }
     }
 }

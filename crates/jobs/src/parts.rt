@@ -14,7 +14,7 @@ use words::{Lexer, Mark, PlacedWord, expect_mark, expect_word};
 
 // A job line that is being read: what is left of its text, the circuit whose lines it may name, and the kind that was chosen,
 // if one was.
-#[derive(Clone, Copy)]
+#[derive(Drop)]
 pub struct JobReader<'a> {
     pub lexer: Lexer<'a>,
     pub circuit: &'a Circuit,

@@ -11,7 +11,7 @@ use Rattle.circuit.specs.declared.op.Op.{Op}
 use Rattle.circuit.specs.Ops.{op_word, fewest_operands, most_operands}
 use Rattle.circuit.specs.Model.{Circuit, line_count, names, line_named}
 use Rattle.circuit.specs.Lawful.{each_after, between, unclaimed}
-use Rattle.reader.specs.Reading.{with_gate}
+use Rattle.reader.specs.Reading.{Granted, reading, with_gate}
 
 -- An operand is a name, or a gate in brackets with operands of its own. Further operands follow it.
 pub data Operands : Type 0 where
@@ -199,6 +199,12 @@ pub record Describes (text : List ℕ) (c : Circuit) (place : ℕ) : Type 0 wher
   pub text_is : lexemes 0 text ≡ front ++ (end ∷ after)
   pub front_is : map unplaced front ≡ words_of source
   pub ended : after_line end ≡ Some place
+
+-- Reading grants just the texts that describe a circuit, with that circuit and the place of the rest.
+abbrev pub ReadsWhatIsDescribed : Type 0
+ReadsWhatIsDescribed =
+    (text : List ℕ) (c : Circuit) (place : ℕ) →
+    (reading text ≡ Granted c place → Describes text c place) × (Describes text c place → reading text ≡ Granted c place)
 
 -- A text describes at most one circuit, and its rest begins at one place.
 abbrev pub OneCircuit : Type 0

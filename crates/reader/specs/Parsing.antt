@@ -1,5 +1,5 @@
 -- How the parts of the reader follow the definition of reading.
-use Rattle.std.specs.Prelude.{◌≡◌, ℕ, ◌+◌, ◌≤◌, List, length, Some, None, Option, Result, MatchResult}
+use Rattle.std.specs.Prelude.{◌≡◌, OnOk, ◌<◌, ℕ, ◌+◌, ◌≤◌, List, length, Some, None, Option, Result, MatchResult}
 use Rattle.refusals.specs.declared.cause.Refusal.{Refusal}
 use Rattle.refusals.specs.declared.cause.Refusal.TheVariants as refusal
 use Rattle.words.specs.Left.{left}
@@ -37,6 +37,14 @@ Leads before r after = MatchResult r (λ x. before ≡ after x) (Refuses before)
 abbrev pub Advances : {X : Type 0} → Due → Parser → Result X Refusal → (X → Due) → Parser → Type 0
 Advances due before r next after =
     MatchResult r (λ x. (at due before ≡ at (next x) after) × (length (ahead after) ≤ length (ahead before))) (Refuses (at due before))
+
+-- granted, at least one lexeme was taken
+abbrev pub Takes : {X E : Type 0} → Result X E → Parser → Parser → Type 0
+Takes r before after = OnOk r (length (ahead after) < length (ahead before))
+
+-- granted, no more lexemes are ahead than before
+abbrev pub AddsNone : {X E : Type 0} → Result X E → Parser → Parser → Type 0
+AddsNone r before after = OnOk r (length (ahead after) ≤ length (ahead before))
 
 -- inside the gates that are pending, whatever the name of their line, with so many more brackets as may be opened
 abbrev pub InGates : ℕ → (List ℕ → List Pending → Type 0) → Type 0

@@ -7,7 +7,7 @@ ghost use Rattle.words.specs.Expected.{is_opening};
 ghost use Rattle.words.specs.Lexemes.{Opening, lexeme};
 ghost use Rattle.circuit.specs.Model.{line_count};
 ghost use Rattle.reader.specs.Reading.{Pending, operator, operand, gate_made, gate_line_close, closing_step, resumed};
-ghost use Rattle.reader.specs.Parsing.{ahead, so_far, at, Leads, InGates};
+ghost use Rattle.reader.specs.Parsing.{ahead, so_far, at, Leads, InGates, Takes, AddsNone};
 ghost use Rattle.reader.specs.Gates.{pending_of, going_on, Opens};
 
 use crate::parser::Parser;
@@ -42,7 +42,7 @@ impl<'a> Parser<'a> {
     // The operator of a gate; `allowed` more brackets may be opened.
     fn operator(&mut self, allowed: usize) -> Result<Op, Refusal>
         ensures leads { InGates allowed (λ name pending. Leads (at (operator name pending) self.old) result (λ op. at (operand name (record { op = op; operands = [] }) pending) self.new)) }
-        ensures fewer { OnOk result (length (ahead self.new) ≤ length (ahead self.old)) }
+        ensures fewer { AddsNone result self.old self.new }
     {
         let token = within_brackets(self.next(), allowed)?;
         let op = expect_word(token)?.named()?;
@@ -53,7 +53,7 @@ impl<'a> Parser<'a> {
     fn gate_part(&mut self, gate: &PendingGate) -> Result<GatePart<'a>, Refusal>
         ensures leads { InGates gate.now.allowed (λ name pending. Leads (at (operand name (pending_of gate.now) pending) self.old) result (going_on name (pending_of gate.now) pending self.new)) }
         ensures opens { IfOk result (Opens gate.now.allowed) }
-        ensures moves { OnOk result (length (ahead self.new) < length (ahead self.old)) }
+        ensures moves { Takes result self.old self.new }
     {
         match within_brackets(self.next(), gate.allowed)? {
             Token::Opening { place } => {
@@ -93,7 +93,7 @@ impl<'a> Parser<'a> {
     // The gate of a gate line. Two brackets are open: the line's and its own.
     pub fn line_gate(&mut self) -> Result<usize, Refusal>
         ensures leads { (name : List ℕ) → Leads (at (operator name []) self.old) result (λ _. at (gate_line_close name) self.new) }
-        ensures fewer { OnOk result (length (ahead self.new) ≤ length (ahead self.old)) }
+        ensures fewer { AddsNone result self.old self.new }
     {
         self.gate(MOST_BRACKETS - 2)
     }
@@ -102,7 +102,7 @@ impl<'a> Parser<'a> {
     #[cycle(gate_operands)]
     fn gate(&mut self, allowed: usize) -> Result<usize, Refusal>
         ensures leads { InGates allowed (λ name pending. Leads (at (operator name pending) self.old) result (λ line. resumed (gate_made (so_far self.new) name line pending) (ahead self.new))) }
-        ensures fewer { OnOk result (length (ahead self.new) ≤ length (ahead self.old)) }
+        ensures fewer { AddsNone result self.old self.new }
     {
         let op = self.operator(allowed)?;
         self.operands(PendingGate {
@@ -117,7 +117,7 @@ impl<'a> Parser<'a> {
     #[cycle(gate_operands)]
     fn operands(&mut self, mut gate: PendingGate) -> Result<usize, Refusal>
         ensures leads { InGates gate.allowed (λ name pending. Leads (at (operand name (pending_of gate) pending) self.old) result (λ line. resumed (gate_made (so_far self.new) name line pending) (ahead self.new))) }
-        ensures fewer { OnOk result (length (ahead self.new) ≤ length (ahead self.old)) }
+        ensures fewer { AddsNone result self.old self.new }
     {
         'operands: loop {
             let line = match self.gate_part(&gate)? {

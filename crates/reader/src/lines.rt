@@ -4,7 +4,7 @@ ghost use Rattle.refusals.specs.declared.cause.Refusal.TheVariants.{Circuit as C
 ghost use Rattle.refusals.specs.declared.layers.CircuitRefusal.TheVariants.{EndsEarly};
 ghost use Rattle.words.specs.Lexemes.{TextEnd, lexeme, is_end};
 ghost use Rattle.reader.specs.Reading.{Granted, inputs_line, inputs_head, input_name, line_end, next_line, next_head, gate_name, gate_begin, operator, gate_line_close, output_name, outputs_end, word_step, resumed};
-ghost use Rattle.reader.specs.Parsing.{ahead, so_far, at, Leads, Advances, after_head, listed};
+ghost use Rattle.reader.specs.Parsing.{ahead, so_far, at, Leads, Advances, after_head, listed, Takes};
 
 use crate::head::{Head, INPUTS, wrong_head};
 use crate::parser::Parser;
@@ -23,11 +23,11 @@ fn before_end(token: Token<'_>) -> Result<Token<'_>, Refusal>
 }
 
 impl<'a> Parser<'a> {
-    // The opening bracket of a line.
+    // The opening bracket of a line. (It and the end of a line read another mark each, and the definition goes on elsewhere.)
     pub fn line_begin(&mut self) -> Result<(), Refusal>
         ensures first { Leads (at inputs_line self.old) result (λ _. at inputs_head self.new) }
         ensures further { Leads (at next_line self.old) result (λ _. at next_head self.new) }
-        ensures moves { OnOk result (length (ahead self.new) < length (ahead self.old)) }
+        ensures moves { Takes result self.old self.new }
     {
         let token = before_end(self.next())?;
         expect_mark(token, Mark::Opening)?;
@@ -59,7 +59,7 @@ impl<'a> Parser<'a> {
     fn listed_name(&mut self, count: usize) -> Result<Option<PlacedWord<'a>>, Refusal>
         ensures inputs { count ≡ length (so_far self.old).inputs → Leads (at input_name self.old) result (listed input_name line_end self.new) }
         ensures outputs { count ≡ length (so_far self.old).outputs → Leads (at output_name self.old) result (listed output_name outputs_end self.new) }
-        ensures moves { OnOk result (length (ahead self.new) < length (ahead self.old)) }
+        ensures moves { Takes result self.old self.new }
     {
         match self.next() {
             Token::Closing { place } if count == 0 => Err(FormRefusal::Misplaced { place }.into()),
@@ -68,10 +68,11 @@ impl<'a> Parser<'a> {
         }
     }
 
-    // The next name of the inputs line, or nothing at its closing bracket.
+    // The next name of the inputs line, or nothing at its closing bracket. (Inputs and outputs have functions of their own round
+    // `listed_name`: each list grows by another rule, and the definition goes on elsewhere after it.)
     fn next_input(&mut self) -> Result<Option<PlacedWord<'a>>, Refusal>
         ensures leads { Leads (at input_name self.old) result (listed input_name line_end self.new) }
-        ensures moves { OnOk result (length (ahead self.new) < length (ahead self.old)) }
+        ensures moves { Takes result self.old self.new }
     {
         let count = self.tables.inputs.len();
         self.listed_name(count)
@@ -80,13 +81,14 @@ impl<'a> Parser<'a> {
     // The next name of the outputs line, or nothing at its closing bracket.
     fn next_output(&mut self) -> Result<Option<PlacedWord<'a>>, Refusal>
         ensures leads { Leads (at output_name self.old) result (listed output_name outputs_end self.new) }
-        ensures moves { OnOk result (length (ahead self.new) < length (ahead self.old)) }
+        ensures moves { Takes result self.old self.new }
     {
         let count = self.tables.outputs.len();
         self.listed_name(count)
     }
 
-    // One name of an inputs line.
+    // One name of an inputs line. (No method of the tables, nor are the next output and the closing of a gate: each refusal has the
+    // place of its word, of which tables know nothing.)
     fn input_name(&mut self, word: PlacedWord<'_>) -> Result<(), Refusal>
         ensures leads { Leads (resumed (word_step input_name (so_far self.old) word.entry.bytes.now word.entry.place) (ahead self.old)) result (λ _. at input_name self.new) }
         ensures same { ahead self.new ≡ ahead self.old }
@@ -122,7 +124,7 @@ impl<'a> Parser<'a> {
     // The begin of a line after the inputs line, to its head.
     pub fn next_line(&mut self) -> Result<Head, Refusal>
         ensures leads { Leads (at next_line self.old) result (λ h. at (after_head h) self.new) }
-        ensures moves { OnOk result (length (ahead self.new) < length (ahead self.old)) }
+        ensures moves { Takes result self.old self.new }
     {
         self.line_begin()?;
         self.next_head()

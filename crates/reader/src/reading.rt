@@ -1,7 +1,7 @@
 // Reading a circuit, for callers.
 ghost use Rattle.std.specs.Prelude.{◌≡◌, length, MatchResult, nat_lt};
 ghost use Rattle.circuit.specs.Tables.{tables_model};
-ghost use Rattle.reader.specs.Describes.{OneCircuit};
+ghost use Rattle.reader.specs.Describes.{ReadsWhatIsDescribed, OneCircuit};
 ghost use Rattle.reader.specs.Parsing.{Refuses};
 ghost use Rattle.reader.specs.Promises.{Reads, Follows};
 ghost use Rattle.reader.specs.Reading.{Granted, reading};
@@ -42,10 +42,7 @@ fn read_text<'a>(heap: Global, text: &'a [u8], circuit: &mut Circuit) -> Result<
 {
     circuit.clear();
     let (tables, place) = read_tables(heap, text)?;
-    match Circuit::new(tables) {
-        Ok(made) => *circuit = made,
-        Err(_) => unreachable!(),
-    }
+    *circuit = Circuit::new(tables).unwrap();
     let bytes = &text[place..];
     Ok(Rest { bytes, place })
 }
@@ -56,6 +53,7 @@ fn read_text<'a>(heap: Global, text: &'a [u8], circuit: &mut Circuit) -> Result<
 pub fn read<'a>(heap: Global, text: &'a [u8], circuit: &mut Circuit) -> Result<Rest<'a>, Refusal>
     ensures reads { Reads text.now result circuit.new }
     ensures follows { Follows text.now result circuit.new }
+    ensures exact { ReadsWhatIsDescribed }
     ensures unique { OneCircuit }
 {
     read_text(heap, text, circuit)

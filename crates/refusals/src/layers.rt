@@ -1,5 +1,6 @@
 // The refusals of the four layers. A refusal of a text has the place of the word that failed: where that word begins,
 // where the line feed stands, or how long the text is if it failed by ending. A refusal of a call without text has none.
+// (Each layer has a table of its own, since the numbers are what the layers differ in.)
 ghost use Rattle.std.specs.Prelude.{◌≡◌, Some};
 ghost use Rattle.refusals.specs.Causes.{text_cause, form_cause, circuit_cause, folder_cause, cause_text};
 
@@ -149,7 +150,7 @@ impl FolderRefusal {
     }
 }
 
-// Written as what it is reported by.
+// Written as what it is reported by. (Calls without text hand it to a program as it is; the other three reach one as a `Refusal`.)
 impl fmt::Display for FolderRefusal {
     ghost output = { λ e. Some (cause_text (folder_cause e)) };
 

@@ -9,7 +9,7 @@ use folder::Entry;
 use std::fmt;
 use std::fmt::Display;
 
-// The name of a line, or `none`.
+// The name of a line, or `none`. (No wrapper for any value that may be missing: a cube would still need one for its letters.)
 #[derive(Clone, Copy)]
 pub struct NameText<'a> {
     pub name: Option<&'a Name>,
@@ -51,9 +51,9 @@ impl fmt::Display for EntryLine<'_> {
             inputs: self.circuit.input_count(),
         };
         let count = self.entry.count();
-        write!(
+        writeln!(
             f,
-            "(entry {number} {name} {pin} {level} {state} {cube} {count})\n"
+            "(entry {number} {name} {pin} {level} {state} {cube} {count})"
         )
     }
 }

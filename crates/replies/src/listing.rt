@@ -38,6 +38,6 @@ pub fn listing(heap: Global, folder: &Folder) -> Result<String, Refusal>
         .filter(|entry| is_tested(entry.state()))
         .count();
     let total = entries.len();
-    write!(text, "(coverage {tested} {total})\n")?;
+    writeln!(text, "(coverage {tested} {total})")?;
     Ok(text)
 }

@@ -22,10 +22,10 @@ impl fmt::Display for Reply {
 
     fn fmt<W: fmt::Write>(&self, f: &mut fmt::Formatter<W>) -> fmt::Result {
         match self {
-            Reply::Kind { kind } => write!(f, "(kind {kind})\n"),
-            Reply::Entered { number } => write!(f, "(entry {number})\n"),
+            Reply::Kind { kind } => writeln!(f, "(kind {kind})"),
+            Reply::Entered { number } => writeln!(f, "(entry {number})"),
             Reply::Listing { text } => f.write_str(text.as_str()),
-            Reply::Refused { cause } => write!(f, "(refused {cause})\n"),
+            Reply::Refused { cause } => writeln!(f, "(refused {cause})"),
         }
     }
 }

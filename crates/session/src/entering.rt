@@ -15,7 +15,8 @@ use values::five::Five;
 use values::nine::Nine;
 use values::seven::Seven;
 
-// Enters the fault under that kind. Entering works out no line, so the row has no place.
+// Enters the fault under that kind. Entering works out no line, so the row has no place. (A `match`: the kinds are types, and the choice
+// among them is made while the program runs. Kind and fault stay two parameters: the one chooses the call, the other goes into it.)
 fn enter_under(folder: &mut Folder, kind: Kind, fault: StuckAt) -> Result<Outcome, Refusal>
     ensures step { Step (kind_of kind) folder.old.circuit (event_of (asked.Enter fault) 0 result) folder.old.table folder.new.table }
     ensures circuit { folder.new.circuit ≡ folder.old.circuit }

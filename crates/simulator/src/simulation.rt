@@ -55,7 +55,7 @@ fn value_at<V: ValueKind>(row: &[V], line: usize) -> V
     row[line]
 }
 
-// Whether some output's value shows.
+// Whether some output's value shows. (No struct of outputs and row: it would be made once, for two questions of one line each.)
 fn some_shows<V: ValueKind>(outputs: &[usize], row: &[V]) -> bool
     requires { AreLines outputs.now row.now }
     ensures { result ≡ some_shows (map V.ValueKind.meaning row.now) outputs.now }
@@ -85,7 +85,8 @@ fn judge<V: ValueKind>(outputs: &[usize], row: &[V]) -> Verdict
     }
 }
 
-// Whether the cube drives an input that the circuit lacks.
+// Whether the cube drives an input that the circuit lacks. (No struct of circuit and cube: a visit tries many cubes on one circuit,
+// and would make a pair for each.)
 pub fn drives_beyond(circuit: &Circuit, cube: Cube) -> bool
     ensures value { result ≡ drives_beyond circuit.now cube }
     ensures rule { Decides result (DrivesBeyond circuit.now cube) }

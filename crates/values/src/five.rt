@@ -6,7 +6,8 @@ ghost use Rattle.std.proofs.Common.{rules};
 
 use crate::kind::ValueKind;
 
-// (Not two halves, as in seven and nine: no half is known alone.)
+// (Not two halves, as in seven and nine: no half is known alone. And no `Option` of a pair in a struct: each arm below would open
+// both, and `None` would not say that every pair is possible.)
 #[derive(Clone, Copy, Debug, PartialEq, Eq)]
 pub enum Five {
     // The good level and the faulty level.

@@ -1,5 +1,6 @@
 // What is known of one level. (The tables say what three-valued logic is. `min` and `max` of an order in which what is unknown stands
-// between 0 and 1 would give two of the four, and need a word on that order.)
+// between 0 and 1 would give two of the four, and need a word on that order. An enum of its own and no `Option<bool>`: the operators
+// need a type of this crate, and `None` would not say that both levels are possible.)
 ghost use Rattle.std.specs.Prelude.{◌≡◌};
 ghost use Rattle.values.specs.Halves.{half_and, half_not, half_or, half_xor, level_half};
 

@@ -4,7 +4,8 @@ ghost use Rattle.values.specs.Kind.{Kind, Lawful};
 ghost use Rattle.values.specs.Pairs.{Pairs, shows, still};
 
 // A value stands for the set of pairs of levels that it admits, good level before faulty level.
-// No method refuses, and each answer's set is a function of the operands' sets.
+// No method refuses, and each answer's set is a function of the operands' sets. (Methods and no bounds `BitAnd`, `Not` and so on: what
+// those promise is a ghost member of their own, which the trait would have to tie to `meaning` by one more law for each.)
 pub trait ValueKind: Copy {
     // What the kind does to sets of pairs.
     ghost kind: { Kind };

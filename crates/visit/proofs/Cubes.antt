@@ -1,10 +1,11 @@
 -- Driving one more input, above those that a cube drives.
-use Rattle.std.proofs.Common.{◌≡◌, ℕ, ◌+◌, ◌*◌, ◌/◌, ◌%◌, ◌^◌, ◌<◌, Bool, true, false, cond, ◌&&◌, eqb, sym, refl, ap, ◌∙◌, add-zero, add_comm, one-mul, zero-mul, arith}
+use Rattle.std.proofs.Common.{◌≡◌, ℕ, ◌+◌, ◌*◌, ◌/◌, ◌%◌, ◌^◌, ◌<◌, ◌≤◌, Bool, true, false, cond, ◌&&◌, eqb, sym, refl, ap, ◌∙◌, add-zero, add_comm, one-mul, zero-mul, arith, pow_mono}
 use native.Mathlib.Nat.{div-eq_of_lt}
 use lib.Bits.{bit_or, or_shifted_r, or_zero_r}
 use Rattle.std.proofs.lemmas.Nat.{pow-add}
 use Rattle.std.proofs.lemmas.Bool.{lt-ltb}
 use Rattle.faults.specs.Cubes.{Cube, leaves_open, driving}
+use Rattle.visit.specs.declared.branch.Branch.{Branch}
 use Rattle.visit.specs.Visiting.{drive}
 
 -- one place above a word
@@ -24,6 +25,15 @@ pub driving_above : (q : Cube) (i : ℕ) (level : Bool) → i < 64 → q.driven 
 driving_above q i level small h l =
     ap (λ (b : Bool). cond b (record { driven = bit_or q.driven (2 ^ i); level = bit_or q.level (cond level (2 ^ i) 0) }) q) (open_above q i small h)
     ∙ rw (or_place q.driven i h, or_level q.level i level l) refl
+
+-- a branch drives below the first input of the cubes below it, and so below each later one
+pub branch_lower : (b : Branch) (i : ℕ) → b.next ≤ i → (b.cube.driven < 2 ^ i) × (b.cube.level < 2 ^ i)
+branch_lower b i h =
+    let above = pow_mono {i = b.next} {j = i} h in
+    (omega (arith, above, b.lower), omega (arith, above, b.level_lower))
+
+pub driving_branch : (b : Branch) (i : ℕ) (level : Bool) → b.next ≤ i → i ≤ 63 → driving b.cube i level ≡ drive b.cube i (cond level 1 0)
+driving_branch b i level h small = let low = branch_lower b i h in driving_above b.cube i level (omega arith) low.0 low.1
 
 pub drive_lower : (q : Cube) (i : ℕ) → q.driven < 2 ^ i → q.driven + 2 ^ i < 2 ^ (i + 1)
 drive_lower q i h = omega (arith, pow-add 2 i 1)

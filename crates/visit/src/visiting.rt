@@ -42,8 +42,8 @@ impl Branch {
     }
 }
 
-// What a visit leaves as it is: the circuit, the socket with the fault, and how many tries it may make. (In a struct with the
-// row too, `room` would leave the same three contracts into which a clause would come that these three stay as they are.)
+// What a visit leaves as it is: the circuit, the socket with the fault, and how many tries it may make. (The row, which each try
+// writes, is no part: three contracts would lose the clause `room`, and the same three gain one that the other parts stay.)
 #[derive(Clone, Copy)]
 struct Setting<'a> {
     circuit: &'a Circuit,
@@ -58,10 +58,7 @@ impl Setting<'_> {
         requires room { HasRoom self.now.circuit.now row.old }
         ensures { result ≡ verdict_in V.ValueKind.kind self.now cube }
     {
-        match simulate(self.circuit, cube, self.socket, row) {
-            Ok(verdict) => verdict,
-            Err(_) => unreachable!(),
-        }
+        simulate(self.circuit, cube, self.socket, row).unwrap()
     }
 
     // Meets a cube: tries it, if it drives fewer inputs than the best, and goes on below it, if it is unsure.

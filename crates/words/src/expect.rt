@@ -4,8 +4,10 @@ ghost use Rattle.refusals.specs.declared.layers.FormRefusal.TheVariants.{Unknown
 ghost use Rattle.words.specs.Expected.{unexpected, Unmet, is_name_word, is_mark, mark_at, LineEnded};
 ghost use Rattle.words.specs.Lexemes.{Word, lexeme};
 ghost use Rattle.words.specs.Spelling.{name_shape};
+ghost use Rattle.words.specs.declared.no_such_name.NoSuchName.{NoSuchName as NoSuchNameModel};
 
 use crate::lexer::Lexer;
+use crate::no_such_name::NoSuchName;
 use crate::spelling::is_name;
 use crate::token::Token;
 use refusals::{FormRefusal, Refusal, TextRefusal};
@@ -67,16 +69,11 @@ pub fn expect_mark(token: Token<'_>, due: Mark) -> Result<usize, Refusal>
 
 impl<'a> PlacedWord<'a> {
     // What the word is the name of.
-    pub fn named<T: TryFrom<&'a [u8]>>(self) -> Result<T, FormRefusal>
-    where
-        T::Error: Drop,
-        ensures { MatchResult result (λ x. T.try_from_gives self.entry.bytes (Ok x)) (λ e. (e ≡ UnknownWord self.entry.place) × ((why : T.Error) × T.try_from_gives self.entry.bytes (Err why))) }
+    pub fn named<T: TryFrom<&'a [u8], Error = NoSuchName>>(self) -> Result<T, FormRefusal>
+        ensures { MatchResult result (λ x. T.try_from_gives self.entry.bytes (Ok x)) (λ e. (e ≡ UnknownWord self.entry.place) × ((why : NoSuchNameModel) × T.try_from_gives self.entry.bytes (Err why))) }
     {
         let place = self.place;
-        match T::try_from(self.bytes) {
-            Ok(meaning) => Ok(meaning),
-            Err(_) => Err(FormRefusal::UnknownWord { place }),
-        }
+        T::try_from(self.bytes).map_err(|_| FormRefusal::UnknownWord { place })
     }
 }
 

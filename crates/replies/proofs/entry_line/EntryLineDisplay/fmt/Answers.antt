@@ -28,7 +28,7 @@ returns-clause-writes g c = λ plain ok.
       c.count-count.ensures,
       c.fault-fault.ensures,
     ) (joined _ _ _ _ _ _ _))
-    (c.write.ensures.writes plain ok)
+    (c.writeln.ensures.writes plain ok)
   where
     digit : (b : Bool) → decimal (bool_byte b) ≡ level_text b
     digit false = decimal_digit 0 (omega arith)
