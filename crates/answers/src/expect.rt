@@ -9,7 +9,8 @@ use std::process::Abort;
 use std::test::Fail;
 use std::{fmt, str};
 
-// A text that is refused, the number and the place. (Fields with names would make six lines of each row of the tables.)
+// A text that is refused, the number and the place. (Fields with names would make six lines of each row of the tables, and so would a
+// struct of number and place.)
 #[derive(Clone, Copy)]
 pub struct Refused(pub &'static str, pub u8, pub usize);
 

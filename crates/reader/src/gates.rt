@@ -71,7 +71,8 @@ impl<'a> Parser<'a> {
         }
     }
 
-    // The gate is complete: it gets the next line number.
+    // The gate is complete: it gets the next line number. (No `From` of a pending gate for it: that would stand for this one place, and
+    // name the parts once more.)
     fn close_gate(&mut self, gate: PendingGate, place: usize) -> Result<usize, Refusal>
         ensures leads { (name : List ℕ) (pending : List Pending) → Leads (resumed (closing_step (operand name (pending_of gate) pending) (so_far self.old) place) (ahead self.old)) result (λ line. resumed (gate_made (so_far self.new) name line pending) (ahead self.new)) }
         ensures same { ahead self.new ≡ ahead self.old }

@@ -88,7 +88,8 @@ impl<'a> Parser<'a> {
     }
 
     // One name of an inputs line. (No method of the tables, nor are the next output and the closing of a gate: each refusal has the
-    // place of its word, of which tables know nothing.)
+    // place of its word, of which tables know nothing. That no lexeme is taken is a clause of three functions; a word for it would be
+    // no shorter.)
     fn input_name(&mut self, word: PlacedWord<'_>) -> Result<(), Refusal>
         ensures leads { Leads (resumed (word_step input_name (so_far self.old) word.entry.bytes.now word.entry.place) (ahead self.old)) result (λ _. at input_name self.new) }
         ensures same { ahead self.new ≡ ahead self.old }
