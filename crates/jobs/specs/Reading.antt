@@ -3,6 +3,9 @@ use Rattle.std.specs.Prelude.{◌≡◌, Some, None, Ok, Err, Option, Result, Ma
 use Rattle.refusals.specs.declared.cause.Refusal.{Refusal}
 use Rattle.circuit.specs.Model.{names}
 use Rattle.words.specs.Left.{left}
+use Rattle.jobs.specs.declared.job.Kind.{Kind}
+use Rattle.jobs.specs.declared.job.Job.{Job}
+use Rattle.jobs.specs.declared.job.Job.TheVariants as job
 use Rattle.jobs.specs.declared.job.JobLine.{JobLine}
 use Rattle.jobs.specs.declared.parts.JobReader.{JobReader}
 use Rattle.jobs.specs.JobLines.{Due, Outcome, NoMore, Asked, Refused, run}
@@ -20,3 +23,17 @@ abbrev pub job_answer : Outcome → Result (Option JobLine) Refusal
 job_answer NoMore = Ok None
 job_answer (Asked job next) = Ok (Some (record { job = job; next = next }))
 job_answer (Refused e) = Err e
+
+-- the job comes in its turn: the kind where none was chosen, and the others under the kind that was
+abbrev pub InTurn : Option Kind → Job → Type 0
+InTurn None (job.Kind k) = Unit {0}
+InTurn (Some chosen) (job.Fault k asked) = k ≡ chosen
+InTurn (Some chosen) (job.Search k number budget) = k ≡ chosen
+InTurn (Some chosen) (job.Cover k number) = k ≡ chosen
+InTurn (Some chosen) job.List = Unit {0}
+InTurn chosen j = ⊥
+
+-- a job that was read comes in its turn
+abbrev pub ReadInTurn : Option Kind → Result (Option JobLine) Refusal → Type 0
+ReadInTurn chosen (Ok (Some line)) = InTurn chosen line.job
+ReadInTurn chosen r = Unit {0}
