@@ -58,7 +58,8 @@ impl Session {
         Ok(())
     }
 
-    // Performs a call on the folder, in the row of that kind.
+    // Performs a call on the folder, in the row of that kind. (There is one: a job that makes a call is read only once a kind was
+    // chosen, and has that kind.)
     fn perform(&mut self, kind: Kind, call: Call) -> Result<Outcome, Refusal>
         requires { self.old.kind ≡ Some kind }
         ensures { Performs self.old kind call result self.new }

@@ -5,7 +5,7 @@ mod answer;
 mod lines;
 pub mod reply;
 pub mod session;
-pub mod work;
+mod work;
 
 pub use reply::Answer;
 pub use session::Session;
