@@ -1,5 +1,5 @@
-// Known answers: tables of texts, each with the answer that reading it must give; the limit on entries; names; and
-// searches and a cover. The answers were worked out by hand from the rules, and none was copied from a run.
+// Known answers: tables of texts, each with the answer that reading it must give; the limit on entries; names; searches and a
+// cover; and job lines with their replies. The answers were worked out by hand from the rules, and none was copied from a run.
 #![tactic(auto)]
 
 #[cfg(test)]
@@ -10,6 +10,8 @@ mod entries;
 mod expect;
 #[cfg(test)]
 mod granted;
+#[cfg(test)]
+mod job_lines;
 #[cfg(test)]
 mod limits;
 #[cfg(test)]

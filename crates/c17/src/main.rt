@@ -1,18 +1,21 @@
-// The ISCAS-85 circuit C17 under the simulator. For every fault on its lines and pins: which of the 32 vectors detect it, in
-// the kind nine. Then the verdicts of the three kinds on some cubes. The expected output comes from another simulator (docs/C17.md).
+// The ISCAS-85 circuit C17 under the simulator and the visit. For every fault on its lines and pins: which of the 32 vectors detect
+// it, in the kind nine. Then the verdicts of the three kinds on some cubes. Then, for every fault, how many inputs the fewest cube
+// drives, in the kind seven. The expected output comes from another simulator and from a solver (docs/C17.md).
 #![tactic(auto)]
 
 use anyhow::Context;
-use circuit::Circuit;
+use circuit::{Circuit, Name};
 use faults::{Cube, Fault, StuckAt};
 use reader::read;
 use refusals::FolderRefusal;
 use simulator::{Socket, Verdict, simulate_fault};
+use std::alloc::Global;
 use std::io;
 use values::five::Five;
 use values::kind::ValueKind;
 use values::nine::Nine;
 use values::seven::Seven;
+use visit::{Answer, visit};
 
 const C17: &[u8] = b"(inputs n1 n2 n3 n6 n7)
 (gate n10 (nand n1 n3))
@@ -27,6 +30,9 @@ const C17: &[u8] = b"(inputs n1 n2 n3 n6 n7)
 const INPUTS: u64 = 5;
 
 const LINES: usize = 11;
+
+// More tries than a visit of C17 can make: it has 3 ^ 5 cubes.
+const BUDGET: usize = 1000;
 
 // A fault by the name of its line, its pin and its level. (A row of a table: fields with names would make five lines of it.)
 #[derive(Clone, Copy)]
@@ -69,8 +75,34 @@ fn verdict<V: ValueKind>(
     simulate_fault(circuit, cube, fault, &mut Socket::new(), row)
 }
 
+// A fault, with the name of its line and the numbers that it was asked for by.
+#[derive(Clone, Copy)]
+struct LineFault<'a> {
+    name: &'a Name,
+    asked: StuckAt,
+    fault: Fault,
+}
+
+// The faults of the circuit: line by line, its pins in order, stuck at 0 and then at 1.
+fn all_faults(heap: Global, circuit: &Circuit) -> anyhow::Result<Vec<LineFault<'_>>> {
+    let mut faults = Vec::new(heap);
+    for line in 0..circuit.line_count() {
+        let name = circuit.line_name(line).context("a line without a name")?;
+        for pin in 0..=circuit.operand_count(line) {
+            for level in 0..2 {
+                let asked = StuckAt { line, pin, level };
+                let fault = Fault::new(circuit, asked)?;
+                faults.push(LineFault { name, asked, fault })?;
+            }
+        }
+    }
+    Ok(faults)
+}
+
 // One digit for each vector: 1 if it detects the fault.
-fn print_vectors(rt: &impl Print, circuit: &Circuit, fault: Fault) -> anyhow::Result<()> {
+fn print_vectors(rt: &impl Print, circuit: &Circuit, of: LineFault<'_>) -> anyhow::Result<()> {
+    let LineFault { name, asked, fault } = of;
+    print!(rt; "{name} {} {} ", asked.pin, asked.level)?;
     for vector in 0..(1u64 << INPUTS) {
         let cube = Cube::new((1 << INPUTS) - 1, vector)?;
         let verdict = verdict(circuit, fault, cube, &mut [Nine::unknown(); LINES])?;
@@ -85,14 +117,17 @@ fn print_vectors(rt: &impl Print, circuit: &Circuit, fault: Fault) -> anyhow::Re
     Ok(())
 }
 
-// The faults of a line: its pins in order, stuck at 0 and then at 1.
-fn print_line(rt: &impl Print, circuit: &Circuit, line: usize) -> anyhow::Result<()> {
-    let name = circuit.line_name(line).context("a line without a name")?;
-    for pin in 0..=circuit.operand_count(line) {
-        for level in 0..2 {
-            let fault = Fault::new(circuit, StuckAt { line, pin, level })?;
-            print!(rt; "{name} {pin} {level} ")?;
-            print_vectors(rt, circuit, fault)?;
+// How many inputs the fewest cube drives that the kind seven shows to detect the fault.
+fn print_fewest(rt: &impl Print, circuit: &Circuit, of: LineFault<'_>) -> anyhow::Result<()> {
+    let LineFault { name, asked, fault } = of;
+    let row = &mut [Seven::unknown(); LINES];
+    match visit(circuit, fault, BUDGET, &mut Socket::new(), row)? {
+        Answer::Fewest { cube, .. } => {
+            let driven = cube.driven().count_ones();
+            println!(rt; "{name} {} {} {driven}", asked.pin, asked.level)?;
+        }
+        Answer::Redundant { .. } | Answer::Spent { .. } => {
+            println!(rt; "{name} {} {} none", asked.pin, asked.level)?;
         }
     }
     Ok(())
@@ -132,11 +167,15 @@ fn main(rt: HostRuntime) -> anyhow::Result<()> {
     let heap = rt.alloc();
     let mut circuit = Circuit::blank(heap)?;
     let _ = read(heap, C17, &mut circuit)?;
-    for line in 0..circuit.line_count() {
-        print_line(&rt, &circuit, line)?;
+    let faults = all_faults(heap, &circuit)?;
+    for fault in &faults {
+        print_vectors(&rt, &circuit, *fault)?;
     }
     for named in CUBE_FAULTS {
         print_cubes(&rt, &circuit, named)?;
+    }
+    for fault in &faults {
+        print_fewest(&rt, &circuit, *fault)?;
     }
     Ok(())
 }

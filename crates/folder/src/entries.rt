@@ -47,11 +47,7 @@ impl Entry {
     pub fn cube(&self) -> Option<Cube>
         ensures { result ≡ state_cube self.now.state }
     {
-        match self.state {
-            State::Spent { cube, .. } => cube,
-            State::Fewest { cube, .. } => Some(cube),
-            State::Open | State::Redundant { .. } | State::Covered { .. } => None,
-        }
+        self.state.cube()
     }
 
     // The tries made, or the number of the entry that covers this one; 0 of an open entry. (One number for the three, as a listing
@@ -59,12 +55,7 @@ impl Entry {
     pub fn count(&self) -> usize
         ensures { result ≡ state_count self.now.state }
     {
-        match self.state {
-            State::Open => 0,
-            State::Spent { tries, .. } | State::Fewest { tries, .. } | State::Redundant { tries } =>
-                tries,
-            State::Covered { by } => by,
-        }
+        self.state.count()
     }
 
     // Whether nothing is left to do: fewest, redundant or covered.

@@ -1,7 +1,7 @@
 // What is known of a fault. (The answers of a visit are cases of their own here, and not one case that holds an answer: the project
 // has five states by name, and each `match` on one would look into two enums.)
 ghost use Rattle.std.specs.Prelude.{◌≡◌, Some};
-ghost use Rattle.folder.specs.Entries.{state_word};
+ghost use Rattle.folder.specs.Entries.{state_cube, state_count, state_word};
 ghost use Rattle.folder.specs.Searching.{filed};
 
 use faults::Cube;
@@ -20,6 +20,31 @@ pub enum State {
     Redundant { tries: usize },
     // the cube of another entry detects it
     Covered { by: usize },
+}
+
+impl State {
+    // The cube that the state holds, if it holds one.
+    pub fn cube(&self) -> Option<Cube>
+        ensures { result ≡ state_cube self.now }
+    {
+        match *self {
+            State::Spent { cube, .. } => cube,
+            State::Fewest { cube, .. } => Some(cube),
+            State::Open | State::Redundant { .. } | State::Covered { .. } => None,
+        }
+    }
+
+    // The tries made, or the number of the entry that covers; 0 where nothing is known.
+    pub fn count(&self) -> usize
+        ensures { result ≡ state_count self.now }
+    {
+        match *self {
+            State::Open => 0,
+            State::Spent { tries, .. } | State::Fewest { tries, .. } | State::Redundant { tries } =>
+                tries,
+            State::Covered { by } => by,
+        }
+    }
 }
 
 // The state that keeps the answer of a visit.

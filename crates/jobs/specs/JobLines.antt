@@ -24,10 +24,10 @@ pub data Due : Type 0 where
   line_begin : Due
   job_head : Due
   kind_word : Due
-  -- the name of the line that a fault is on, under the kind that was chosen; the number of its pin; the number of its level
+  -- the name of the line that a fault is on, under the kind that was chosen
   fault_name : Kind → Due
-  fault_pin : Kind → ℕ → Due
-  fault_level : Kind → ℕ → ℕ → Due
+  -- a number, and what is due after it, by its value
+  number : (ℕ → Due) → Due
   -- the closing bracket, and the end of the line
   line_close : Job → Due
   line_end : Job → Due
@@ -62,7 +62,9 @@ abbrev pub head_named : List ℕ → Option Head
 head_named word =
     cond (bytes_eq word (codes "kind")) (Some head.Kind)
     (cond (bytes_eq word (codes "fault")) (Some head.Fault)
-    (cond (bytes_eq word (codes "list")) (Some head.List) None))
+    (cond (bytes_eq word (codes "search")) (Some head.Search)
+    (cond (bytes_eq word (codes "cover")) (Some head.Cover)
+    (cond (bytes_eq word (codes "list")) (Some head.List) None))))
 
 abbrev pub kind_named : List ℕ → Option Kind
 kind_named word =
@@ -78,13 +80,26 @@ NamesHead word r = MatchResult r (λ h. head_named word ≡ Some h) (λ _. head_
 abbrev pub NamesKind : List ℕ → Result Kind NoSuchName → Type 0
 NamesKind word r = MatchResult r (λ k. kind_named word ≡ Some k) (λ _. kind_named word ≡ None)
 
+-- a fault's numbers, pin and then level, after the line
+abbrev pub fault_numbers : Kind → ℕ → Due
+fault_numbers k line = number (λ pin. number (λ level. line_close (job.Fault k (record { line = line; pin = pin; level = level }))))
+
+-- the number of the entry to look for a test for, and then the budget of tries
+abbrev pub search_numbers : Kind → Due
+search_numbers k = number (λ entry. number (λ budget. line_close (job.Search k entry budget)))
+
+-- the number of the entry that covers
+abbrev pub cover_number : Kind → Due
+cover_number k = number (λ entry. line_close (job.Cover k entry))
+
 -- What is due after a head, by the kind that was chosen; nothing where it may not come now. The kind comes first, and once.
 abbrev pub turn : Option Kind → Head → Option Due
 turn None head.Kind = Some kind_word
-turn None head.Fault = None
-turn None head.List = None
+turn None h = None
 turn (Some k) head.Kind = None
 turn (Some k) head.Fault = Some (fault_name k)
+turn (Some k) head.Search = Some (search_numbers k)
+turn (Some k) head.Cover = Some (cover_number k)
 turn (Some k) head.List = Some (line_close job.List)
 
 abbrev pub in_turn : ℕ → Option Due → Step
@@ -101,7 +116,7 @@ kind_found n (Some k) = Go (line_close (job.Kind k))
 
 abbrev pub name_found : Kind → ℕ → Option ℕ → Step
 name_found k n None = unknown_name n
-name_found k n (Some line) = Go (fault_pin k line)
+name_found k n (Some line) = Go (fault_numbers k line)
 
 -- The names of the circuit's lines, and the kind that was chosen, if one was, are given.
 module _ (names : List (Option (List ℕ))) (chosen : Option Kind) where
@@ -110,9 +125,7 @@ module _ (names : List (Option (List ℕ))) (chosen : Option Kind) where
   word_step job_head word n = cond (name_shape word) (head_found chosen n (head_named word)) (malformed n)
   word_step kind_word word n = cond (name_shape word) (kind_found n (kind_named word)) (malformed n)
   word_step (fault_name k) word n = cond (name_shape word) (name_found k n (line_named names word)) (malformed n)
-  word_step (fault_pin k line) word n = cond (number_shape word) (Go (fault_level k line (number_value word))) (malformed n)
-  word_step (fault_level k line pin) word n =
-      cond (number_shape word) (Go (line_close (job.Fault k (record { line = line; pin = pin; level = number_value word })))) (malformed n)
+  word_step (number after) word n = cond (number_shape word) (Go (after (number_value word))) (malformed n)
   word_step due word n = cond (name_shape word) (misplaced n) (malformed n)
 
   abbrev pub opening_step : Due → ℕ → Step

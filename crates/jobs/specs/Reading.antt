@@ -1,8 +1,11 @@
 -- How the parts of the job reader follow the definition.
-use Rattle.std.specs.Prelude.{◌≡◌, Some, None, Ok, Err, Option, Result, MatchResult}
+use Rattle.std.specs.Prelude.{◌≡◌, true, is_some, Some, None, Ok, Err, Option, Result, MatchResult, ⊤}
 use Rattle.refusals.specs.declared.cause.Refusal.{Refusal}
 use Rattle.circuit.specs.Model.{names}
 use Rattle.words.specs.Left.{left}
+use Rattle.jobs.specs.declared.job.Kind.{Kind}
+use Rattle.jobs.specs.declared.job.Job.{Job}
+use Rattle.jobs.specs.declared.job.Job.TheVariants as job
 use Rattle.jobs.specs.declared.job.JobLine.{JobLine}
 use Rattle.jobs.specs.declared.parts.JobReader.{JobReader}
 use Rattle.jobs.specs.JobLines.{Due, Outcome, NoMore, Asked, Refused, run}
@@ -20,3 +23,16 @@ abbrev pub job_answer : Outcome → Result (Option JobLine) Refusal
 job_answer NoMore = Ok None
 job_answer (Asked job next) = Ok (Some (record { job = job; next = next }))
 job_answer (Refused e) = Err e
+
+-- the job comes in its turn: the kind where none was chosen, and each other job after that, with the kind that was chosen
+abbrev pub InTurn : Option Kind → Job → Type 0
+InTurn chosen (job.Kind k) = chosen ≡ None
+InTurn chosen (job.Fault k asked) = chosen ≡ Some k
+InTurn chosen (job.Search k number budget) = chosen ≡ Some k
+InTurn chosen (job.Cover k number) = chosen ≡ Some k
+InTurn chosen job.List = is_some chosen ≡ true
+
+-- a job that was read comes in its turn
+abbrev pub ReadInTurn : Option Kind → Result (Option JobLine) Refusal → Type 0
+ReadInTurn chosen (Ok (Some line)) = InTurn chosen line.job
+ReadInTurn chosen r = ⊤

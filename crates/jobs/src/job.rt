@@ -19,18 +19,39 @@ pub enum Kind {
 #[derive(Clone, Copy, Debug, PartialEq, Eq)]
 pub enum Job {
     // choose the value kind
-    Kind { kind: Kind },
+    Kind {
+        kind: Kind,
+    },
     // enter a stuck-at fault, under the kind that was chosen
-    Fault { kind: Kind, fault: StuckAt },
+    Fault {
+        kind: Kind,
+        fault: StuckAt,
+    },
+    // look for a test for the entry of that number, in at most so many tries, under the kind that was chosen
+    Search {
+        kind: Kind,
+        number: usize,
+        budget: usize,
+    },
+    // cover by the entry of that number, under the kind that was chosen
+    Cover {
+        kind: Kind,
+        number: usize,
+    },
     // list the entries
     List,
 }
+
+// The longest head. It is compared by `==`: an arm with a literal as long as this gets no proof.
+const SEARCH: &[u8] = b"search";
 
 // The word that a job line begins with.
 #[derive(Clone, Copy, Debug, PartialEq, Eq)]
 pub enum Head {
     Kind,
     Fault,
+    Search,
+    Cover,
     List,
 }
 
@@ -67,7 +88,9 @@ impl TryFrom<&[u8]> for Head {
         match word {
             b"kind" => Ok(Head::Kind),
             b"fault" => Ok(Head::Fault),
+            b"cover" => Ok(Head::Cover),
             b"list" => Ok(Head::List),
+            _ if word == SEARCH => Ok(Head::Search),
             _ => Err(NoSuchName),
         }
     }

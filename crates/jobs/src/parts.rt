@@ -1,7 +1,7 @@
 // The parts of a job line.
-ghost use Rattle.std.specs.Prelude.{◌≡◌, ℕ};
-ghost use Rattle.jobs.specs.JobLines.{Asked, job_head, kind_word, fault_name, fault_pin, line_close};
-ghost use Rattle.jobs.specs.Reading.{Leads, at};
+ghost use Rattle.std.specs.Prelude.{◌≡◌, ℕ, Some, None, IfOk};
+ghost use Rattle.jobs.specs.JobLines.{Due, Asked, job_head, kind_word, fault_name, number, fault_numbers, search_numbers, cover_number, line_close};
+ghost use Rattle.jobs.specs.Reading.{Leads, InTurn, at};
 ghost use Rattle.jobs.specs.declared.job.Job.{Job as JobModel};
 ghost use Rattle.jobs.specs.declared.job.Kind.{Kind};
 
@@ -24,7 +24,8 @@ pub struct JobReader<'a> {
 impl JobReader<'_> {
     // A kind job, after its head.
     fn kind(&mut self) -> Result<Job, Refusal>
-        ensures { Leads (at kind_word self.old) result (λ j. at (line_close j) self.new) }
+        ensures leads { Leads (at kind_word self.old) result (λ j. at (line_close j) self.new) }
+        ensures turn { IfOk result (InTurn None) }
     {
         let kind = expect_word(self.lexer.next_token())?.named()?;
         Ok(Job::Kind { kind })
@@ -32,7 +33,7 @@ impl JobReader<'_> {
 
     // The line of the name that is due.
     fn fault_line(&mut self) -> Result<usize, Refusal>
-        ensures { (k : Kind) → Leads (at (fault_name k) self.old) result (λ line. at (fault_pin k line) self.new) }
+        ensures { (k : Kind) → Leads (at (fault_name k) self.old) result (λ line. at (fault_numbers k line) self.new) }
     {
         let PlacedWord { bytes, place } = expect_word(self.lexer.next_token())?;
         let line = self
@@ -42,27 +43,61 @@ impl JobReader<'_> {
         Ok(line)
     }
 
+    // The number that is due.
+    fn number(&mut self) -> Result<usize, Refusal>
+        ensures { (after : ℕ → Due) → Leads (at (number after) self.old) result (λ n. at (after n) self.new) }
+    {
+        expect_number(self.lexer.next_token())
+    }
+
     // A fault job, after its head.
     fn fault(&mut self, kind: Kind) -> Result<Job, Refusal>
-        ensures { Leads (at (fault_name kind) self.old) result (λ j. at (line_close j) self.new) }
+        ensures leads { Leads (at (fault_name kind) self.old) result (λ j. at (line_close j) self.new) }
+        ensures turn { IfOk result (InTurn (Some kind)) }
     {
         let line = self.fault_line()?;
-        let pin = expect_number(self.lexer.next_token())?;
-        let level = expect_number(self.lexer.next_token())?;
+        let pin = self.number()?;
+        let level = self.number()?;
         let fault = StuckAt { line, pin, level };
         Ok(Job::Fault { kind, fault })
     }
 
+    // A job that looks for a test, after its head.
+    fn search(&mut self, kind: Kind) -> Result<Job, Refusal>
+        ensures leads { Leads (at (search_numbers kind) self.old) result (λ j. at (line_close j) self.new) }
+        ensures turn { IfOk result (InTurn (Some kind)) }
+    {
+        let number = self.number()?;
+        let budget = self.number()?;
+        Ok(Job::Search {
+            kind,
+            number,
+            budget,
+        })
+    }
+
+    // A job that covers, after its head.
+    fn cover(&mut self, kind: Kind) -> Result<Job, Refusal>
+        ensures leads { Leads (at (cover_number kind) self.old) result (λ j. at (line_close j) self.new) }
+        ensures turn { IfOk result (InTurn (Some kind)) }
+    {
+        let number = self.number()?;
+        Ok(Job::Cover { kind, number })
+    }
+
     // The job, from its head to before its closing bracket. The kind comes first, and once.
     pub fn job(&mut self) -> Result<Job, Refusal>
-        ensures { Leads (at job_head self.old) result (λ j. at (line_close j) self.new) }
+        ensures leads { Leads (at job_head self.old) result (λ j. at (line_close j) self.new) }
+        ensures turn { IfOk result (InTurn self.old.chosen) }
     {
         let word = expect_word(self.lexer.next_token())?;
         match (word.named()?, self.chosen) {
             (Head::Kind, None) => self.kind(),
             (Head::Fault, Some(kind)) => self.fault(kind),
+            (Head::Search, Some(kind)) => self.search(kind),
+            (Head::Cover, Some(kind)) => self.cover(kind),
             (Head::List, Some(_)) => Ok(Job::List),
-            (Head::Kind, Some(_)) | (Head::Fault | Head::List, None) => {
+            (Head::Kind, Some(_)) | (_, None) => {
                 let place = word.place;
                 Err(FormRefusal::Misplaced { place }.into())
             }

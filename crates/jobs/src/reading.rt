@@ -3,7 +3,7 @@ ghost use Rattle.std.specs.Prelude.{◌≡◌, min, length};
 ghost use Rattle.circuit.specs.Model.{names};
 ghost use Rattle.words.specs.Lexemes.{lexemes_from};
 ghost use Rattle.jobs.specs.JobLines.{line_begin, run};
-ghost use Rattle.jobs.specs.Reading.{job_answer};
+ghost use Rattle.jobs.specs.Reading.{ReadInTurn, job_answer};
 
 use crate::job::{JobLine, Kind};
 use crate::parts::JobReader;
@@ -19,7 +19,8 @@ pub fn read_job(
     circuit: &Circuit,
     chosen: Option<Kind>,
 ) -> Result<Option<JobLine>, Refusal>
-    ensures { result ≡ job_answer (run (names circuit.now) chosen line_begin (lexemes_from text.now (min place (length text.now)))) }
+    ensures value { result ≡ job_answer (run (names circuit.now) chosen line_begin (lexemes_from text.now (min place (length text.now)))) }
+    ensures turn { ReadInTurn chosen result }
 {
     let mut lexer = Lexer::new(text, place);
     let token = lexer.next_token();

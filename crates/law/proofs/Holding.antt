@@ -138,9 +138,13 @@ module _ (K : Kind) (M : Pairs → Type 0) (l : Lawful K M) (c : Circuit) where
       marked = λ n e at h u. searched_redundant history table n e.fault e.state (k.entries n e at) h u;
     }
 
+  -- the law holds where a history leads
+  pub run_sound : (history : List Event) (table : List Entry) → Run K c history table → Sound K c history table
+  run_sound history table run = kept_sound history table (run_keeps history table run)
+
   -- one call more
   pub keeps_law : (before after : Folder) (e : Event) → before.circuit ≡ c → after.circuit ≡ c → Step K c e before.table after.table → KeepsLaw K before e after
   keeps_law before after e was is step history run =
       let longer : Run K c (e ∷ history) after.table = next (subst (λ (d : Circuit). Run K d history before.table) was run) step in
       subst (λ (d : Circuit). Run K d (e ∷ history) after.table × Sound K d (e ∷ history) after.table) (sym is)
-      (longer, kept_sound (e ∷ history) after.table (run_keeps (e ∷ history) after.table longer))
+      (longer, run_sound (e ∷ history) after.table longer)

@@ -3,7 +3,7 @@ ghost use Rattle.std.specs.Prelude.{Some};
 ghost use Rattle.std.specs.Option.{option_map};
 ghost use Rattle.replies.specs.Lines.{name_text, entry_line};
 
-use crate::cube_text::CubeText;
+use crate::state_text::StateText;
 use circuit::{Circuit, Name};
 use folder::Entry;
 use std::fmt;
@@ -45,15 +45,10 @@ impl fmt::Display for EntryLine<'_> {
         };
         let pin = fault.pin();
         let level = u8::from(fault.level());
-        let state = self.entry.state();
-        let cube = CubeText {
-            cube: self.entry.cube(),
+        let state = StateText {
+            state: self.entry.state(),
             inputs: self.circuit.input_count(),
         };
-        let count = self.entry.count();
-        writeln!(
-            f,
-            "(entry {number} {name} {pin} {level} {state} {cube} {count})"
-        )
+        writeln!(f, "(entry {number} {name} {pin} {level} {state})")
     }
 }

@@ -5,6 +5,7 @@ pub mod cube_text;
 pub mod entry_line;
 pub mod listing;
 pub mod reply;
+pub mod state_text;
 
 pub use cube_text::CubeText;
 pub use reply::Reply;

@@ -1,3 +1,4 @@
 pub mod Kinds
+pub mod Works
 pub mod Sessions
 pub mod Answers

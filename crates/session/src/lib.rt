@@ -2,10 +2,10 @@
 #![tactic(auto)]
 
 mod answer;
-mod entering;
 mod lines;
 pub mod reply;
 pub mod session;
+mod work;
 
 pub use reply::Answer;
 pub use session::Session;

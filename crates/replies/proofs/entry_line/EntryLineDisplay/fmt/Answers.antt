@@ -1,16 +1,10 @@
-use Rattle.std.proofs.Common.{◌≡◌, ℕ, Bool, true, false, List, ◌++◌, append_assoc, arith}
+use Rattle.std.proofs.Common.{◌≡◌, Bool, true, false, refl, arith}
 use Rattle.std.proofs.lemmas.Fmt.{decimal_digit}
-use Rattle.std.specs.Prelude.{codes, decimal}
+use Rattle.std.specs.Prelude.{decimal}
 use mir.Val.{bool_byte}
 use Rattle.std.proofs.Output.{has_written_of_eq}
 use Rattle.replies.specs.Lines.{level_text}
 use Rattle.replies.proofs.entry_line.EntryLineDisplay.fmt.Goals as goal
-
--- the parts of an entry's line, as the code joins them
-joined : (number name pin level state cube count : List ℕ)
-    → codes "(entry " ++ ((number ++ (codes " " ++ (name ++ (codes " " ++ (pin ++ (codes " " ++ (level ++ (codes " " ++ (state ++ (codes " " ++ cube)))))))))) ++ (codes " " ++ (count ++ codes ")\n")))
-    ≡ codes "(entry " ++ (number ++ (codes " " ++ (name ++ (codes " " ++ (pin ++ (codes " " ++ (level ++ (codes " " ++ (state ++ (codes " " ++ (cube ++ (codes " " ++ (count ++ codes ")\n")))))))))))))
-joined number name pin level state cube count = simp append_assoc
 
 pub returns-clause-writes : goal.returns-clause-writes
 returns-clause-writes g c = λ plain ok.
@@ -22,12 +16,10 @@ returns-clause-writes g c = λ plain ok.
       c.from-level.ensures,
       digit c.level.result,
       c.level.ensures,
-      c.state-state.ensures.value,
-      c.cube.ensures,
+      c.state.ensures.value,
       c.input_count.ensures.value,
-      c.count-count.ensures,
       c.fault-fault.ensures,
-    ) (joined _ _ _ _ _ _ _))
+    ) refl)
     (c.writeln.ensures.writes plain ok)
   where
     digit : (b : Bool) → decimal (bool_byte b) ≡ level_text b
