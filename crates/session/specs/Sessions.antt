@@ -76,9 +76,8 @@ job_answer s place job.List next = record { output = listing s.folder.circuit s.
 abbrev pub job_stores : Session → Job → Bool
 job_stores s (job.Kind k) = true
 job_stores s (job.Fault k asked) = is_ok (called s k (Enter asked))
-job_stores s (job.Search k number budget) = false
-job_stores s (job.Cover k number) = false
 job_stores s job.List = true
+job_stores s j = false
 
 abbrev pub outcome_stores : Session → lines.Outcome → Bool
 outcome_stores s NoMore = false
