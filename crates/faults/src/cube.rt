@@ -1,5 +1,5 @@
-// A cube: which inputs are driven and to which level, bit i for input i. The other inputs are open. (Two words, since callers give
-// and take a cube as these.)
+// A cube: which inputs are driven and to which level, bit i for input i. The other inputs are open. (Two words and no list of levels:
+// what it drives beyond a circuit, and how many inputs it drives, is one operation on a word, and a cube is copied at each try.)
 use std::marker::Model;
 
 #[derive(Clone, Copy, Debug, PartialEq, Eq)]

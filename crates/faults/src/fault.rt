@@ -7,7 +7,8 @@ use crate::stuck_at::StuckAt;
 use circuit::Circuit;
 use refusals::FolderRefusal;
 
-// One pin of one line keeps one level, whatever drives it. (The pin is a number, as job lines give it and listings write it.)
+// One pin of one line keeps one level, whatever drives it. (The pin is one number: an enum of the line itself and an operand would be
+// made of the number in `new`, and turned back into it for each listing and each look at a pin.)
 #[derive(Clone, Copy, Debug, PartialEq, Eq)]
 pub struct Fault {
     line: usize,

@@ -50,8 +50,7 @@ impl Entry {
         self.state.cube()
     }
 
-    // The tries made, or the number of the entry that covers this one; 0 of an open entry. (One number for the three, as a listing
-    // writes it.)
+    // The tries made, or the number of the entry that covers this one; 0 of an open entry.
     pub fn count(&self) -> usize
         ensures { result ≡ state_count self.now.state }
     {

@@ -55,7 +55,7 @@ impl Folder {
     {
         let entry = self.entry_at(number)?;
         allow_search(entry, budget)?;
-        // by reference, since a value that holds a cube is not copied where it is passed on and used again
+        // by reference: the check does not copy an answer, which holds a cube, where it is passed on and used again
         let answer = &visit(&self.circuit, entry.fault(), budget, socket, row)?;
         self.entries[number] = entry.in_state((*answer).into());
         Ok(*answer)

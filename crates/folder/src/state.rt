@@ -34,7 +34,8 @@ impl State {
         }
     }
 
-    // The tries made, or the number of the entry that covers; 0 where nothing is known.
+    // The tries made, or the number of the entry that covers; 0 where nothing is known. (One number for the three, as a listing writes
+    // it.)
     pub fn count(&self) -> usize
         ensures { result ≡ state_count self.now }
     {

@@ -39,6 +39,7 @@ pub data Outcome : Type 0 where
   Asked : Job → ℕ → Outcome
   Refused : Refusal → Outcome
 
+-- (A step of its own, and not that of a circuit text: what is due and what comes out differ.)
 pub data Step : Type 0 where
   Go : Due → Step
   Stop : Outcome → Step

@@ -12,7 +12,8 @@ use refusals::Refusal;
 use words::{Lexer, Mark, Token, expect_mark};
 
 // Reads the job line that begins at that place of the text: the job, and where the next line begins; nothing where only
-// spaces are left. `chosen` is the kind that was chosen, if one was.
+// spaces are left. `chosen` is the kind that was chosen, if one was. (Text and place, and no `Lexer`: the caller keeps the place
+// between calls, and after a refusal goes on at another one.)
 pub fn read_job(
     text: &[u8],
     place: usize,

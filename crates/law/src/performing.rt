@@ -11,7 +11,8 @@ use simulator::Socket;
 use values::kind::ValueKind;
 
 // Performs a call on the folder, under the kind of the row's values. Its contract says what the call does, by the
-// definitions (step), and that the law of the folder outlasts it (law).
+// definitions (step), and that the law of the folder outlasts it (law). (Socket and row are two parameters: each has a clause, and a
+// struct of both would be taken apart for each call.)
 pub fn perform<V: ValueKind>(
     folder: &mut Folder,
     call: Call,

@@ -23,7 +23,8 @@ fn before_end(token: Token<'_>) -> Result<Token<'_>, Refusal>
 }
 
 impl<'a> Parser<'a> {
-    // The opening bracket of a line. (It and the end of a line read another mark each, and the definition goes on elsewhere.)
+    // The opening bracket of a line. (It and the end of a line share `before_end` and `expect_mark`; what is left differs in the mark
+    // and in each clause.)
     pub fn line_begin(&mut self) -> Result<(), Refusal>
         ensures first { Leads (at inputs_line self.old) result (λ _. at inputs_head self.new) }
         ensures further { Leads (at next_line self.old) result (λ _. at next_head self.new) }

@@ -1,6 +1,6 @@
 // The refusals of the four layers. A refusal of a text has the place of the word that failed: where that word begins,
 // where the line feed stands, or how long the text is if it failed by ending. A refusal of a call without text has none.
-// (Each layer has a table of its own, since the numbers are what the layers differ in.)
+// (Four tables: each is a `match` over the cases of its own enum, and only the making of a `Cause`, one expression, could be shared.)
 ghost use Rattle.std.specs.Prelude.{◌≡◌, Some};
 ghost use Rattle.refusals.specs.Causes.{text_cause, form_cause, circuit_cause, folder_cause, cause_text};
 

@@ -2,7 +2,7 @@
 use Rattle.std.specs.Prelude.{ℕ, zero, suc, ◌+◌, ◌/◌, ◌%◌, ◌^◌, cond, List, [], ◌∷◌, Some, None, codes, Option, ◌==◌}
 use Rattle.faults.specs.Cubes.{Cube}
 
--- x for an input that stays open, else its level
+-- x for an input that stays open, else its level (spelled out, so that a cube's text can be read by itself)
 abbrev pub level_letter : ℕ → ℕ → ℕ → ℕ
 level_letter driven level i = cond (driven / 2 ^ i % 2 == 0) 120 (cond (level / 2 ^ i % 2 == 0) 48 49)
 

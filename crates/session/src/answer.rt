@@ -72,7 +72,8 @@ impl Session {
         }
     }
 
-    // Performs the call, or says why not; a refusal by the folder has the place of the job's line.
+    // Performs the call, or says why not; a refusal by the folder has the place of the job's line. (Kind and call stay two parameters:
+    // the one is that of the row, the other goes to the folder.)
     fn answer_call(&mut self, place: usize, kind: Kind, call: Call) -> Result<Reply, Refusal>
         requires { self.old.kind ≡ Some kind }
         ensures answers { AnswersCall self.old place kind call result self.new }

@@ -16,15 +16,12 @@ use faults::{Cube, Fault};
 use refusals::FolderRefusal;
 use values::kind::ValueKind;
 
-// What a cube gives an input. (By `map_or_else` it gets no proof: the kit does not cover a function passed by name that makes a
-// value of a type parameter.)
+// What a cube gives an input.
 fn input_value<V: ValueKind>(cube: Cube, input: usize) -> V
     ensures { V.ValueKind.meaning result ≡ input_value V.ValueKind.kind cube input }
 {
-    match cube.level_at(input) {
-        Some(level) => V::known(level),
-        None => V::unknown(),
-    }
+    cube.level_at(input)
+        .map_or(V::unknown(), |level| V::known(level))
 }
 
 // Works out the lines of the inputs.
@@ -134,7 +131,9 @@ pub fn simulate<V: ValueKind>(
     Ok(judge(circuit.outputs(), row))
 }
 
-// Plugs the fault for one simulation. The socket is empty afterwards, whether the simulation is granted or refused.
+// Plugs the fault for one simulation. (Socket and row are two parameters, here and in the calls above it: each has what becomes of
+// it in a clause of its own, and a struct of both would be taken apart in each call.)
+// The socket is empty afterwards, whether the simulation is granted or refused.
 pub fn simulate_fault<V: ValueKind>(
     circuit: &Circuit,
     cube: Cube,
