@@ -1,6 +1,9 @@
 pub mod Lines
 pub mod Detection
 pub mod Laws
+pub mod LineSets
+pub mod Fanouts
+pub mod Resimulation
 pub mod Simulation
 pub mod Words
 pub mod Callers

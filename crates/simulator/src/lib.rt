@@ -2,6 +2,9 @@
 #![tactic(auto)]
 
 mod gates;
+mod fanout;
+mod line_set;
+mod resimulation;
 pub mod simulation;
 pub mod socket;
 pub mod verdict;

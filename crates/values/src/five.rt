@@ -87,4 +87,8 @@ impl ValueKind for Five {
     fn still(self) -> bool {
         matches!(self, Five::Pair(good, faulty) if good == faulty)
     }
+
+    fn equals(self, other: Five) -> bool {
+        self == other
+    }
 }

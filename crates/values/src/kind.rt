@@ -1,5 +1,5 @@
 // What a simulator asks of the values that its lines carry.
-ghost use Rattle.std.specs.Prelude.{◌≡◌};
+ghost use Rattle.std.specs.Prelude.{◌≡◌, Decides};
 ghost use Rattle.values.specs.Kind.{Kind, Lawful};
 ghost use Rattle.values.specs.Pairs.{Pairs, shows, still};
 
@@ -48,6 +48,10 @@ pub trait ValueKind: Copy {
     // Does each admitted pair have equal levels?
     fn still(self) -> bool
         ensures { result ≡ still (meaning self) };
+
+    // Are the two one value?
+    fn equals(self, other: Self) -> bool
+        ensures { Decides result (self ≡ other) };
 
     // What each kind proves of its functions.
     ghost lawful: { Lawful kind family };

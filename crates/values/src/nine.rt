@@ -89,4 +89,8 @@ impl ValueKind for Nine {
             (Half::Zero, Half::Zero) | (Half::One, Half::One)
         )
     }
+
+    fn equals(self, other: Nine) -> bool {
+        self == other
+    }
 }

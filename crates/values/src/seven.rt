@@ -78,4 +78,8 @@ impl ValueKind for Seven {
     fn still(self) -> bool {
         self.value.still()
     }
+
+    fn equals(self, other: Seven) -> bool {
+        self == other
+    }
 }
