@@ -7,6 +7,7 @@ use Rattle.refusals.specs.declared.cause.Refusal.{Refusal}
 use Rattle.values.specs.Kind.{Kind}
 use Rattle.circuit.specs.Model.{Circuit}
 use Rattle.faults.specs.Cubes.{Cube}
+use Rattle.simulator.specs.Simulation.{drives_beyond}
 use Rattle.visit.specs.declared.answer.Answer.{Answer}
 use Rattle.visit.specs.declared.answer.Answer.TheVariants as answer
 use Rattle.visit.specs.Meaning.{Test, Unbeaten, Undetectable}
@@ -58,6 +59,8 @@ EntryAt table number e = slice_get table number ≡ Some e
 pub record Sound (K : Kind) (c : Circuit) (history : List Event) (table : List Entry) : Type 0 where
   -- every vector that fills in an entry's cube detects the entry's fault
   pub cubes : (n : ℕ) (e : Entry) → EntryAt table n e → (q : Cube) → state_cube e.state ≡ Some q → Test c e.fault q
+  -- no entry's cube drives an input that the circuit lacks
+  pub inside : (n : ℕ) (e : Entry) → EntryAt table n e → (q : Cube) → state_cube e.state ≡ Some q → drives_beyond c q ≡ false
   -- an entry that is covered by another: that one has a cube, and every vector that fills it in detects this one's fault
   pub covered : (n m : ℕ) (e : Entry) → EntryAt table n e → e.state ≡ Covered m
       → (d : Entry) × (q : Cube) × EntryAt table m d × (state_cube d.state ≡ Some q) × Test c e.fault q
