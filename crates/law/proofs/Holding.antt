@@ -140,9 +140,7 @@ module _ (K : Kind) (M : Pairs → Type 0) (l : Lawful K M) (c : Circuit) where
     kept_sound : Sound K c history table
     kept_sound = record {
       cubes = λ n e at q is. cube_known history table n e.fault e.state (k.entries n e at) q is;
-      covered = λ n m e at is.
-          let (d, q, tries, there, fewest, test) = (known_at n e at (Covered m) is).1 in
-          (d, q, there, ap state_cube fewest, test);
+      covered = λ n m e at is. (known_at n e at (Covered m) is).1;
       inside = λ n e at q is. cube_inside history table n e.fault e.state (k.entries n e at) q is;
       fewest = λ n e at q tries is. (known_at n e at (Fewest q tries) is).1;
       redundant = λ n e at r. known_at n e at (Redundant r.0) r.1;

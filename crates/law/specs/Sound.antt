@@ -61,9 +61,9 @@ pub record Sound (K : Kind) (c : Circuit) (history : List Event) (table : List E
   pub cubes : (n : ℕ) (e : Entry) → EntryAt table n e → (q : Cube) → state_cube e.state ≡ Some q → Test c e.fault q
   -- no entry's cube drives an input that the circuit lacks
   pub inside : (n : ℕ) (e : Entry) → EntryAt table n e → (q : Cube) → state_cube e.state ≡ Some q → drives_beyond c q ≡ false
-  -- an entry that is covered by another: that one has a cube, and every vector that fills it in detects this one's fault
+  -- an entry that is covered by another: that one is fewest, and every vector that fills in its cube detects this one's fault
   pub covered : (n m : ℕ) (e : Entry) → EntryAt table n e → e.state ≡ Covered m
-      → (d : Entry) × (q : Cube) × EntryAt table m d × (state_cube d.state ≡ Some q) × Test c e.fault q
+      → (d : Entry) × (q : Cube) × (tries : ℕ) × EntryAt table m d × (d.state ≡ Fewest q tries) × Test c e.fault q
   -- no cube that the kind shows to detect the fault of a fewest entry drives fewer inputs than the entry's cube
   pub fewest : (n : ℕ) (e : Entry) → EntryAt table n e → (q : Cube) (tries : ℕ) → e.state ≡ Fewest q tries → Unbeaten K c e.fault q
   -- a redundant entry was searched, by an event that was granted and not spent, and no vector detects its fault
