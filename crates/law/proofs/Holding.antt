@@ -116,7 +116,7 @@ module _ (K : Kind) (M : Pairs → Type 0) (l : Lawful K M) (c : Circuit) where
   cube_inside history table n f Open k q e = cc
   cube_inside history table n f (Spent None tries) k q e = cc
   cube_inside history table n f (Spent (Some p) tries) k q e = let same : p ≡ q = cc in subst (λ (x : Cube). drives_beyond c x ≡ false) same k.2
-  cube_inside history table n f (Fewest p tries) k q e = let same : p ≡ q = cc in subst (λ (x : Cube). drives_beyond c x ≡ false) same k.2
+  cube_inside history table n f (Fewest p tries) k q e = let same : p ≡ q = cc in subst (λ (x : Cube). drives_beyond c x ≡ false) same k.3
   cube_inside history table n f (Redundant tries) k q e = cc
   cube_inside history table n f (Covered m) k q e = cc
 
@@ -142,7 +142,7 @@ module _ (K : Kind) (M : Pairs → Type 0) (l : Lawful K M) (c : Circuit) where
       cubes = λ n e at q is. cube_known history table n e.fault e.state (k.entries n e at) q is;
       covered = λ n m e at is. (known_at n e at (Covered m) is).1;
       inside = λ n e at q is. cube_inside history table n e.fault e.state (k.entries n e at) q is;
-      fewest = λ n e at q tries is. (known_at n e at (Fewest q tries) is).1;
+      fewest = λ n e at q tries is. let k = known_at n e at (Fewest q tries) is in (k.1, k.2);
       redundant = λ n e at r. known_at n e at (Redundant r.0) r.1;
       marked = λ n e at h u. searched_redundant history table n e.fault e.state (k.entries n e at) h u;
     }

@@ -15,7 +15,7 @@ use Rattle.simulator.specs.Simulation.{drives_beyond}
 use Rattle.simulator.proofs.Telling.{shown_are_tests}
 use Rattle.visit.specs.declared.answer.Answer.{Answer}
 use Rattle.visit.specs.declared.answer.Answer.TheVariants as answer
-use Rattle.visit.specs.Meaning.{Test, Unbeaten, Undetectable, Means}
+use Rattle.visit.specs.Meaning.{Test, Unbeaten, Shown, Undetectable, Means}
 use Rattle.visit.specs.Visits.{Inside}
 use Rattle.folder.specs.declared.state.State.{State}
 use Rattle.folder.specs.declared.state.State.TheVariants.{Open, Spent, Fewest, Redundant, Covered}
@@ -40,7 +40,7 @@ module _ (K : Kind) (c : Circuit) where
   Known history table n f Open = Unsearched history n
   Known history table n f (Spent None tries) = Unsearched history n
   Known history table n f (Spent (Some q) tries) = Unsearched history n × Test c f q × (drives_beyond c q ≡ false)
-  Known history table n f (Fewest q tries) = Test c f q × Unbeaten K c f q × (drives_beyond c q ≡ false)
+  Known history table n f (Fewest q tries) = Test c f q × Unbeaten K c f q × Shown K c f q × (drives_beyond c q ≡ false)
   Known history table n f (Redundant tries) = SearchedUnspent history n × Undetectable c f
   Known history table n f (Covered m) = Unsearched history n × Backed table f m
 
@@ -122,7 +122,7 @@ module _ (K : Kind) (c : Circuit) where
 
       known_here : (after : List Entry) (a : Answer) → Means K c x.fault a → Inside c a → is_unspent_search number event ≡ is_unspent a
           → Known (event ∷ history) after number x.fault (filed a)
-      known_here after (answer.Fewest q tries) m i o = (m.0, m.1, i)
+      known_here after (answer.Fewest q tries) m i o = (m.0, m.1, m.2, i)
       known_here after (answer.Redundant tries) m i o = (ap (λ (b : Bool). b || list_any (is_unspent_search number) history) o, m)
       known_here after (answer.Spent None tries) m i o = idle_same number o ∙ unsearched_before
       known_here after (answer.Spent (Some q) tries) m i o = (idle_same number o ∙ unsearched_before, m, i)
