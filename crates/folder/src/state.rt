@@ -14,7 +14,7 @@ pub enum State {
     Open,
     // the tries ran out; the cube is the best that was met
     Spent { cube: Option<Cube>, tries: usize },
-    // a test that drives as few inputs as any
+    // a test; no cube that the kind shows to be one drives fewer inputs
     Fewest { cube: Cube, tries: usize },
     // no vector detects the fault
     Redundant { tries: usize },

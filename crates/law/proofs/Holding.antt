@@ -1,6 +1,6 @@
 -- The law holds after every history.
 use Rattle.std.proofs.Math.Bool.{and-false}
-use Rattle.std.proofs.Common.{◌≡◌, ℕ, Bool, ◌&&◌, List, ◌∷◌, Some, None, Ok, Err, Result, sym, refl, ap, ◌∙◌, subst, true≢false}
+use Rattle.std.proofs.Common.{◌≡◌, ℕ, Bool, false, ◌&&◌, List, ◌∷◌, Some, None, Ok, Err, Result, sym, refl, ap, ◌∙◌, subst, true≢false}
 use Rattle.std.proofs.lemmas.Bool.{eq-eqb, ne_eqb}
 use Rattle.std.specs.List.{slice_get}
 use Rattle.refusals.specs.declared.cause.Refusal.{Refusal}
@@ -12,10 +12,11 @@ use Rattle.faults.specs.declared.fault.Fault.{Fault}
 use Rattle.faults.specs.Cubes.{Cube}
 use Rattle.faults.specs.declared.stuck_at.StuckAt.{StuckAt}
 use Rattle.faults.specs.Faults.{fault_made}
-use Rattle.simulator.specs.Simulation.{simulation_allowed}
+use Rattle.simulator.specs.Simulation.{simulation_allowed, drives_beyond}
 use Rattle.visit.specs.declared.answer.Answer.{Answer}
-use Rattle.visit.specs.Visits.{answer_in}
+use Rattle.visit.specs.Visits.{answer_in, Inside}
 use Rattle.visit.specs.Meaning.{Test, Undetectable, Means}
+use Rattle.visit.proofs.Counting.{answer_inside}
 use Rattle.visit.proofs.Meanings.{answer_means}
 use Rattle.folder.specs.declared.state.State.{State}
 use Rattle.folder.specs.declared.state.State.TheVariants.{Open, Spent, Fewest, Redundant, Covered}
@@ -61,6 +62,7 @@ module _ (K : Kind) (M : Pairs → Type 0) (l : Lawful K M) (c : Circuit) where
         subst (λ (t : List Entry). Kept K c (event (Search number budget) places (Ok o) ∷ history) t) (sym (left ∙ ap (λ (y : Granted Answer). y.table) filed-as))
         (kept_filed K c history (event (Search number budget) places (Ok o)) before k number x (found_granted _ x found) (allowed_unsettled x.state budget u allowed) a
         (subst (λ (y : Answer). Means K c x.fault y) (answered_is K c x.fault budget places a answered) (answer_means K M l c x.fault budget))
+        (subst (λ (y : Answer). Inside c y) (answered_is K c x.fault budget places a answered) (answer_inside K c x.fault budget))
         (λ n ne. ap (λ (b : Bool). b && is_unspent_outcome o) (ne_eqb number n (λ e. ne (sym e))))
         (ap (λ (b : Bool). b && is_unspent_outcome o) (eq-eqb number number refl) ∙ ap is_unspent_outcome named-as))
 
@@ -110,6 +112,14 @@ module _ (K : Kind) (M : Pairs → Type 0) (l : Lawful K M) (c : Circuit) where
   cube_known history table n f (Redundant tries) k q e = cc
   cube_known history table n f (Covered m) k q e = cc
 
+  cube_inside : (history : List Event) (table : List Entry) (n : ℕ) (f : Fault) (s : State) → Known K c history table n f s → (q : Cube) → state_cube s ≡ Some q → drives_beyond c q ≡ false
+  cube_inside history table n f Open k q e = cc
+  cube_inside history table n f (Spent None tries) k q e = cc
+  cube_inside history table n f (Spent (Some p) tries) k q e = let same : p ≡ q = cc in subst (λ (x : Cube). drives_beyond c x ≡ false) same k.2
+  cube_inside history table n f (Fewest p tries) k q e = let same : p ≡ q = cc in subst (λ (x : Cube). drives_beyond c x ≡ false) same k.3
+  cube_inside history table n f (Redundant tries) k q e = cc
+  cube_inside history table n f (Covered m) k q e = cc
+
   -- a fault with a test is detected by some vector
   test_detects : (f : Fault) (q : Cube) → Test c f q → Undetectable c f → ⊥
   test_detects f q test none = true≢false (sym (test q.level (λ i e. refl)) ∙ none q.level)
@@ -130,10 +140,9 @@ module _ (K : Kind) (M : Pairs → Type 0) (l : Lawful K M) (c : Circuit) where
     kept_sound : Sound K c history table
     kept_sound = record {
       cubes = λ n e at q is. cube_known history table n e.fault e.state (k.entries n e at) q is;
-      covered = λ n m e at is.
-          let (d, q, tries, there, fewest, test) = (known_at n e at (Covered m) is).1 in
-          (d, q, there, ap state_cube fewest, test);
-      fewest = λ n e at q tries is. (known_at n e at (Fewest q tries) is).1;
+      covered = λ n m e at is. (known_at n e at (Covered m) is).1;
+      inside = λ n e at q is. cube_inside history table n e.fault e.state (k.entries n e at) q is;
+      fewest = λ n e at q tries is. let k = known_at n e at (Fewest q tries) is in (k.1, k.2);
       redundant = λ n e at r. known_at n e at (Redundant r.0) r.1;
       marked = λ n e at h u. searched_redundant history table n e.fault e.state (k.entries n e at) h u;
     }

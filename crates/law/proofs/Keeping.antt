@@ -11,10 +11,12 @@ use Rattle.circuit.specs.Model.{Circuit}
 use Rattle.faults.specs.declared.fault.Fault.{Fault}
 use Rattle.faults.specs.Cubes.{Cube}
 use Rattle.simulator.specs.Detection.{detected}
+use Rattle.simulator.specs.Simulation.{drives_beyond}
 use Rattle.simulator.proofs.Telling.{shown_are_tests}
 use Rattle.visit.specs.declared.answer.Answer.{Answer}
 use Rattle.visit.specs.declared.answer.Answer.TheVariants as answer
-use Rattle.visit.specs.Meaning.{Test, Unbeaten, Undetectable, Means}
+use Rattle.visit.specs.Meaning.{Test, Unbeaten, Shown, Undetectable, Means}
+use Rattle.visit.specs.Visits.{Inside}
 use Rattle.folder.specs.declared.state.State.{State}
 use Rattle.folder.specs.declared.state.State.TheVariants.{Open, Spent, Fewest, Redundant, Covered}
 use Rattle.folder.specs.Entries.{Entry, opened, with_state, state_settled}
@@ -37,8 +39,8 @@ module _ (K : Kind) (c : Circuit) where
   abbrev pub Known : List Event → List Entry → ℕ → Fault → State → Type 0
   Known history table n f Open = Unsearched history n
   Known history table n f (Spent None tries) = Unsearched history n
-  Known history table n f (Spent (Some q) tries) = Unsearched history n × Test c f q
-  Known history table n f (Fewest q tries) = Test c f q × Unbeaten K c f q
+  Known history table n f (Spent (Some q) tries) = Unsearched history n × Test c f q × (drives_beyond c q ≡ false)
+  Known history table n f (Fewest q tries) = Test c f q × Unbeaten K c f q × Shown K c f q × (drives_beyond c q ≡ false)
   Known history table n f (Redundant tries) = SearchedUnspent history n × Undetectable c f
   Known history table n f (Covered m) = Unsearched history n × Backed table f m
 
@@ -64,7 +66,7 @@ module _ (K : Kind) (c : Circuit) where
       → Known history table n f s → Known later after n f s
   known_moves history later table after n f Open e b k = e ∙ k
   known_moves history later table after n f (Spent None tries) e b k = e ∙ k
-  known_moves history later table after n f (Spent (Some q) tries) e b k = (e ∙ k.0, k.1)
+  known_moves history later table after n f (Spent (Some q) tries) e b k = (e ∙ k.0, k.1, k.2)
   known_moves history later table after n f (Fewest q tries) e b k = k
   known_moves history later table after n f (Redundant tries) e b k = (e ∙ k.0, k.1)
   known_moves history later table after n f (Covered m) e b k = (e ∙ k.0, b m k.1)
@@ -118,14 +120,14 @@ module _ (K : Kind) (c : Circuit) where
       backed_set : (y : Entry) (g : Fault) (m : ℕ) → Backed table g m → Backed (set table number y) g m
       backed_set y g m (d, q, tries, at, is, test) = (d, q, tries, nth_set_other table number m y (not_backing d q tries m at is) ∙ at, is, test)
 
-      known_here : (after : List Entry) (a : Answer) → Means K c x.fault a → is_unspent_search number event ≡ is_unspent a
+      known_here : (after : List Entry) (a : Answer) → Means K c x.fault a → Inside c a → is_unspent_search number event ≡ is_unspent a
           → Known (event ∷ history) after number x.fault (filed a)
-      known_here after (answer.Fewest q tries) m o = m
-      known_here after (answer.Redundant tries) m o = (ap (λ (b : Bool). b || list_any (is_unspent_search number) history) o, m)
-      known_here after (answer.Spent None tries) m o = idle_same number o ∙ unsearched_before
-      known_here after (answer.Spent (Some q) tries) m o = (idle_same number o ∙ unsearched_before, m)
+      known_here after (answer.Fewest q tries) m i o = (m.0, m.1, m.2, i)
+      known_here after (answer.Redundant tries) m i o = (ap (λ (b : Bool). b || list_any (is_unspent_search number) history) o, m)
+      known_here after (answer.Spent None tries) m i o = idle_same number o ∙ unsearched_before
+      known_here after (answer.Spent (Some q) tries) m i o = (idle_same number o ∙ unsearched_before, m, i)
 
-      module _ (a : Answer) (means : Means K c x.fault a) (others : (n : ℕ) → (n ≡ number → ⊥) → is_unspent_search n event ≡ false) (own : is_unspent_search number event ≡ is_unspent a) where
+      module _ (a : Answer) (means : Means K c x.fault a) (inside : Inside c a) (others : (n : ℕ) → (n ≡ number → ⊥) → is_unspent_search n event ≡ false) (own : is_unspent_search number event ≡ is_unspent a) where
         abbrev new : Entry
         new = with_state x (filed a)
 
@@ -134,7 +136,7 @@ module _ (K : Kind) (c : Circuit) where
             let same : Some e ≡ Some new = sym h ∙ ap (slice_get (set table number new)) at ∙ nth_set_same table number x new found in
             let one : e ≡ new = cc in
             subst (λ (i : ℕ). Known (event ∷ history) (set table number new) i e.fault e.state) (sym at)
-            (subst (λ (y : Entry). Known (event ∷ history) (set table number new) number y.fault y.state) (sym one) (known_here (set table number new) a means own))
+            (subst (λ (y : Entry). Known (event ∷ history) (set table number new) number y.fault y.state) (sym one) (known_here (set table number new) a means inside own))
         known_set n e h (inr other) =
             known_moves history (event ∷ history) table (set table number new) n e.fault e.state (idle_same n (others n other)) (backed_set new e.fault)
             (k.entries n e (sym (nth_set_other table number n new other) ∙ h))

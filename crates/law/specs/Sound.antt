@@ -7,9 +7,10 @@ use Rattle.refusals.specs.declared.cause.Refusal.{Refusal}
 use Rattle.values.specs.Kind.{Kind}
 use Rattle.circuit.specs.Model.{Circuit}
 use Rattle.faults.specs.Cubes.{Cube}
+use Rattle.simulator.specs.Simulation.{drives_beyond}
 use Rattle.visit.specs.declared.answer.Answer.{Answer}
 use Rattle.visit.specs.declared.answer.Answer.TheVariants as answer
-use Rattle.visit.specs.Meaning.{Test, Unbeaten, Undetectable}
+use Rattle.visit.specs.Meaning.{Test, Unbeaten, Shown, Undetectable}
 use Rattle.folder.specs.declared.state.State.{State}
 use Rattle.folder.specs.declared.state.State.TheVariants.{Fewest, Redundant, Covered}
 use Rattle.folder.specs.Entries.{Entry, state_cube}
@@ -58,11 +59,13 @@ EntryAt table number e = slice_get table number ≡ Some e
 pub record Sound (K : Kind) (c : Circuit) (history : List Event) (table : List Entry) : Type 0 where
   -- every vector that fills in an entry's cube detects the entry's fault
   pub cubes : (n : ℕ) (e : Entry) → EntryAt table n e → (q : Cube) → state_cube e.state ≡ Some q → Test c e.fault q
-  -- an entry that is covered by another: that one has a cube, and every vector that fills it in detects this one's fault
+  -- no entry's cube drives an input that the circuit lacks
+  pub inside : (n : ℕ) (e : Entry) → EntryAt table n e → (q : Cube) → state_cube e.state ≡ Some q → drives_beyond c q ≡ false
+  -- an entry that is covered by another: that one is fewest, and every vector that fills in its cube detects this one's fault
   pub covered : (n m : ℕ) (e : Entry) → EntryAt table n e → e.state ≡ Covered m
-      → (d : Entry) × (q : Cube) × EntryAt table m d × (state_cube d.state ≡ Some q) × Test c e.fault q
-  -- no cube that the kind shows to detect the fault of a fewest entry drives fewer inputs than the entry's cube
-  pub fewest : (n : ℕ) (e : Entry) → EntryAt table n e → (q : Cube) (tries : ℕ) → e.state ≡ Fewest q tries → Unbeaten K c e.fault q
+      → (d : Entry) × (q : Cube) × (tries : ℕ) × EntryAt table m d × (d.state ≡ Fewest q tries) × Test c e.fault q
+  -- the kind shows the cube of a fewest entry to detect the fault, and no cube that it shows to do so drives fewer inputs
+  pub fewest : (n : ℕ) (e : Entry) → EntryAt table n e → (q : Cube) (tries : ℕ) → e.state ≡ Fewest q tries → Unbeaten K c e.fault q × Shown K c e.fault q
   -- a redundant entry was searched, by an event that was granted and not spent, and no vector detects its fault
   pub redundant : (n : ℕ) (e : Entry) → EntryAt table n e → IsRedundant e.state → SearchedUnspent history n × Undetectable c e.fault
   -- an entry that was so searched, and whose fault no vector detects, is redundant

@@ -2,7 +2,9 @@
 #![tactic(auto)]
 
 pub mod call;
+mod known;
 mod performing;
 
 pub use call::{Call, Outcome};
+pub use known::known_history;
 pub use performing::perform;

@@ -1,7 +1,7 @@
 // Performing a call.
-ghost use Rattle.std.specs.Prelude.{◌≡◌, length};
+ghost use Rattle.std.specs.Prelude.{◌≡◌, length, true};
 ghost use Rattle.simulator.specs.Callers.{RowKept, SocketStaysEmpty};
-ghost use Rattle.law.specs.Histories.{event_of, Step};
+ghost use Rattle.law.specs.Histories.{event_of, takes_memory, Step};
 ghost use Rattle.law.specs.Sound.{KeepsLaw};
 
 use crate::call::{Call, Outcome};
@@ -24,6 +24,7 @@ pub fn perform<V: ValueKind>(
     ensures circuit { folder.new.circuit ≡ folder.old.circuit }
     ensures socket { SocketStaysEmpty result socket.old socket.new }
     ensures row { RowKept result row.old row.new }
+    ensures untouched { takes_memory call ≡ true → (socket.new ≡ socket.old) × (row.new ≡ row.old) }
 {
     match call {
         Call::Enter { fault } => {

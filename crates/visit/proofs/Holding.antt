@@ -1,8 +1,8 @@
 -- What lasts through a visit: its best cube is a cube of the circuit's inputs that shows, and its tries stay within the budget.
-use Rattle.std.proofs.Common.{◌≡◌, ℕ, zero, suc, ◌+◌, ◌-◌, ◌*◌, ◌/◌, ◌%◌, ◌^◌, ◌<◌, ◌≤◌, Bool, true, false, cond, not, ◌&&◌, ltb, ◌⊎◌, Some, None, Option, sym, refl, ap, ◌∙◌, subst, inl, inr, zero-add, arith, pow_mono}
+use Rattle.std.proofs.Common.{◌≡◌, ℕ, zero, suc, ◌+◌, ◌-◌, ◌*◌, ◌/◌, ◌%◌, ◌^◌, ◌<◌, ◌≤◌, Bool, true, false, cond, not, ◌&&◌, ltb, ◌⊎◌, Some, None, Option, sym, refl, ap, ◌∙◌, subst, inl, inr, true≢false, zero-add, arith, pow_mono}
 use Rattle.std.proofs.lemmas.Nat.{pow-add}
 use Rattle.std.proofs.lemmas.Nat.Bits.{bit_at_cat_low, bit_at_cat_high, bit_at_above}
-use Rattle.std.proofs.lemmas.Bool.{cases_eq, cases_lt, ltb-true}
+use Rattle.std.proofs.lemmas.Bool.{cases_eq, cases_lt, ltb-true, ltb-false}
 use Rattle.faults.specs.Cubes.{Cube, Within, nothing_driven}
 use Rattle.simulator.specs.declared.verdict.Verdict.{Verdict}
 use Rattle.simulator.specs.declared.verdict.Verdict.TheVariants.{Shows, Still, Unsure}
@@ -50,7 +50,7 @@ shape_drive k v q one h = record { driven_low = omega (arith, pow-add 2 k 1, h.d
 module _ (judge : Cube → Verdict) (budget inputs : ℕ) (Fact : Progress → Type 0)
     (shown : (q : Cube) → Shape inputs q → judge q ≡ Shows → (s : Progress) → s.tries < budget → Fact s → Fact (record { best = Some q; tries = s.tries + 1; spent = false }))
     (passed : (s : Progress) → s.tries < budget → Fact s → Fact (record { best = s.best; tries = s.tries + 1; spent = false }))
-    (ended : (s : Progress) → Fact s → Fact (record { best = s.best; tries = s.tries; spent = true })) where
+    (ended : (s : Progress) → budget ≤ s.tries → Fact s → Fact (record { best = s.best; tries = s.tries; spent = true })) where
   tried_keeps : (v : Verdict) (deeper : Progress → Progress) (q : Cube) → judge q ≡ v → Shape inputs q → ((s : Progress) → Fact s → Fact (deeper s)) → (s : Progress) → s.tries < budget → Fact s → Fact (tried v deeper q s)
   tried_keeps Shows deeper q e h d s l g = shown q h e s l g
   tried_keeps Still deeper q e h d s l g = passed s l g
@@ -61,7 +61,7 @@ module _ (judge : Cube → Verdict) (budget inputs : ℕ) (Fact : Progress → T
     where
       go : (a b : Bool) → ltb s.tries budget ≡ b → Fact (cond a (cond b (tried (judge q) (deeper q) q s) (record { best = s.best; tries = s.tries; spent = true })) s)
       go false b e = g
-      go true false e = ended s g
+      go true false e = ended s (ltb-false _ _ e) g
       go true true e = tried_keeps (judge q) (deeper q) q refl h d s (ltb-true _ _ e) g
 
   below_keeps : (m k : ℕ) → k + m ≡ inputs → (q : Cube) → Shape k q → (s : Progress) → Fact s → Fact (below judge budget inputs m q s)
@@ -90,8 +90,12 @@ module _ (judge : Cube → Verdict) (budget inputs : ℕ) where
 
   -- the best cube shows
   pub visit_good : Good (visited judge budget inputs).best
-  visit_good = visit_keeps judge budget inputs (λ (s : Progress). Good s.best) (λ q h e s l g. (e, h)) (λ s l g. g) (λ s g. g) tt
+  visit_good = visit_keeps judge budget inputs (λ (s : Progress). Good s.best) (λ q h e s l g. (e, h)) (λ s l g. g) (λ s l g. g) tt
 
   -- no more tries were made than the budget
   pub visit_within : (visited judge budget inputs).tries ≤ budget
-  visit_within = visit_keeps judge budget inputs (λ (s : Progress). s.tries ≤ budget) (λ q h e s l g. omega arith) (λ s l g. omega arith) (λ s g. g) (omega arith)
+  visit_within = visit_keeps judge budget inputs (λ (s : Progress). s.tries ≤ budget) (λ q h e s l g. omega arith) (λ s l g. omega arith) (λ s l g. g) (omega arith)
+
+  -- where the visit is spent, no fewer
+  pub visit_spent : (visited judge budget inputs).spent ≡ true → budget ≤ (visited judge budget inputs).tries
+  visit_spent = visit_keeps judge budget inputs (λ (s : Progress). s.spent ≡ true → budget ≤ s.tries) (λ q h e s l g no. absurd (true≢false (sym no))) (λ s l g no. absurd (true≢false (sym no))) (λ s l g is. l) (λ no. absurd (true≢false (sym no)))

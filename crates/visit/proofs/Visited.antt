@@ -1,5 +1,5 @@
 -- What the whole visit comes to, as the code makes it.
-use Rattle.std.proofs.Common.{◌≡◌, ℕ, ◌-◌, ◌≤◌, length, Some, Ok, Option, sym, ap, ◌∙◌, subst}
+use Rattle.std.proofs.Common.{◌≡◌, ℕ, ◌-◌, ◌^◌, ◌≤◌, length, Some, Ok, Option, sym, ap, ◌∙◌, subst}
 use native.Mathlib.Nat.{sub-zero}
 use Rattle.std.specs.Result.{result_map_both}
 use Rattle.refusals.specs.declared.layers.FolderRefusal.{FolderRefusal}
@@ -12,8 +12,8 @@ use Rattle.simulator.specs.Detection.{verdict}
 use Rattle.simulator.specs.Simulation.{row_allowed}
 use Rattle.visit.specs.Visiting.{Progress, met, below, at_start, Answer, progress_answer, answer, answer_tries}
 use Rattle.visit.specs.Meaning.{Means}
-use Rattle.visit.specs.Visits.{Visits}
-use Rattle.visit.proofs.Counting.{answer_within}
+use Rattle.visit.specs.Visits.{Visits, UsesUp, Inside}
+use Rattle.visit.proofs.Counting.{answer_within, answer_used_up, answer_few, answer_inside}
 use Rattle.visit.proofs.Meanings.{answer_means}
 
 module _ (K : Kind) (M : Pairs → Type 0) (l : Lawful K M) (c : Circuit) (f : Fault) (budget places : ℕ) where
@@ -37,4 +37,7 @@ module _ (K : Kind) (M : Pairs → Type 0) (l : Lawful K M) (c : Circuit) (f : F
     answer = ap Ok e ∙ ap (result_map_both (λ _. answer K c f budget) (λ (e : FolderRefusal). e)) allowed;
     means = subst (λ (a : Answer). Means K c f a) (sym e) (answer_means K M l c f budget);
     within = subst (λ (a : Answer). answer_tries a ≤ budget) (sym e) (answer_within K c f budget);
+    used_up = subst (λ (a : Answer). UsesUp budget a) (sym e) (answer_used_up K c f budget);
+    few = subst (λ (a : Answer). answer_tries a ≤ 3 ^ length c.inputs) (sym e) (answer_few K c f budget);
+    inside = subst (λ (a : Answer). Inside c a) (sym e) (answer_inside K c f budget);
   }

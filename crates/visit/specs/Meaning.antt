@@ -20,9 +20,13 @@ Undetectable c f = (v : ℕ) → detects c (Some f) v ≡ false
 abbrev pub Unbeaten : Kind → Circuit → Fault → Cube → Type 0
 Unbeaten K c f q = (t : Cube) → Within t.driven t.level → detected K c (Some f) t ≡ true → count_ones q.driven ≤ count_ones t.driven
 
+-- the kind shows the cube to detect the fault
+abbrev pub Shown : Kind → Circuit → Fault → Cube → Type 0
+Shown K c f q = detected K c (Some f) q ≡ true
+
 -- what an answer says of the fault
 abbrev pub Means : Kind → Circuit → Fault → Answer → Type 0
-Means K c f (Fewest q tries) = Test c f q × Unbeaten K c f q
+Means K c f (Fewest q tries) = Test c f q × Unbeaten K c f q × Shown K c f q
 Means K c f (Redundant tries) = Undetectable c f
 Means K c f (Spent None tries) = Unit {0}
 Means K c f (Spent (Some q) tries) = Test c f q

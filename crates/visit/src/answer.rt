@@ -3,7 +3,7 @@ use faults::Cube;
 
 #[derive(Clone, Copy, Debug, PartialEq, Eq)]
 pub enum Answer {
-    // a test that drives as few inputs as any
+    // a test; no cube that the kind shows to be one drives fewer inputs
     Fewest { cube: Cube, tries: usize },
     // no vector detects the fault
     Redundant { tries: usize },

@@ -1,4 +1,4 @@
-// The visit of cubes that finds a test for a fault which drives as few inputs as any.
+// The visit of cubes that finds a test for a fault which drives as few inputs as any that the value kind shows.
 #![tactic(auto)]
 
 pub mod answer;
