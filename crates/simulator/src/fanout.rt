@@ -10,8 +10,9 @@ use circuit::{Circuit, Gate, MOST_LINES};
 
 // A circuit, and for each of its lines the gates that read it: made once for all tries of a visit. (An array and no `Vec`, since
 // a visit takes no memory.)
+#[derive(Drop)]
 pub struct Fanout<'a> {
-    pub(crate) circuit: &'a Circuit,
+    pub circuit: &'a Circuit,
     pub(crate) readers: [LineSet; MOST_LINES],
     ghost complete: { Complete (length circuit.now.inputs) circuit.now.gates readers },
 }

@@ -2,13 +2,15 @@
 #![tactic(auto)]
 
 mod gates;
-mod fanout;
+pub mod fanout;
 mod line_set;
-mod resimulation;
+pub mod resimulation;
 pub mod simulation;
 pub mod socket;
 pub mod verdict;
 
+pub use fanout::Fanout;
+pub use resimulation::resimulate;
 pub use simulation::{
     allow_row, allow_simulation, drives_beyond, simulate, simulate_fault, simulation_tells,
 };

@@ -1,5 +1,6 @@
 -- One turn of the visit below a cube.
-use Rattle.std.proofs.Common.{◌≡◌, ℕ, zero, suc, ◌+◌, ◌-◌, ◌<◌, Bool, true, cond, not, ◌&&◌, sym, refl, ap, ◌∙◌, arith}
+use Rattle.std.proofs.Common.{◌≡◌, ℕ, zero, suc, ◌+◌, ◌-◌, ◌^◌, ◌<◌, ◌≤◌, Bool, true, false, cond, not, ◌&&◌, ltb, Some, None, Option, sym, refl, ap, ◌∙◌, add_comm, one-mul, arith, pow_mono}
+use lib.Count.{ones, ones_cat}
 use Rattle.values.specs.Kind.{Kind}
 use Rattle.faults.specs.Cubes.{Cube}
 use Rattle.simulator.specs.declared.verdict.Verdict.{Verdict}
@@ -26,6 +27,32 @@ module _ (judge : Cube → Verdict) (budget inputs : ℕ) where
       ap (λ (x : Progress). below_this q (met judge budget below_this (drive q (inputs - suc m) 1) x)) (met_given_up below_this (drive q (inputs - suc m) 0) p h)
       ∙ ap (below_this q) (met_given_up below_this (drive q (inputs - suc m) 1) p h)
       ∙ below_given_up m q p h
+
+  -- a cube that does not drive fewer inputs than the best is passed over
+  met_beaten : (deeper : Cube → Progress → Progress) (q : Cube) (p : Progress) → fewer q p.best ≡ false → met judge budget deeper q p ≡ p
+  met_beaten deeper q p h = ap (λ (b : Bool). cond (not p.spent && b) (due judge budget deeper q p) p) h ∙ none p.spent
+    where
+      none : (b : Bool) → cond (not b && false) (due judge budget deeper q p) p ≡ p
+      none true = refl
+      none false = refl
+
+  -- and so are all cubes below one, if each drives too many
+  below_beaten : (m : ℕ) (q : Cube) (p : Progress) → ((i level : ℕ) → inputs - m ≤ i → fewer (drive q i level) p.best ≡ false) → below judge budget inputs m q p ≡ p
+  below_beaten zero q p h = refl
+  below_beaten (suc m) q p h =
+      let below_this : Cube → Progress → Progress = below judge budget inputs m in
+      ap (λ (x : Progress). below_this q (met judge budget below_this (drive q (inputs - suc m) 1) x)) (met_beaten below_this (drive q (inputs - suc m) 0) p (h (inputs - suc m) 0 (omega arith)))
+      ∙ ap (below_this q) (met_beaten below_this (drive q (inputs - suc m) 1) p (h (inputs - suc m) 1 (omega arith)))
+      ∙ below_beaten m q p (λ i level above. h i level (omega (arith, above)))
+
+-- Each cube with one more input driven, above those that the cube drives, drives one more.
+driven_more : (n i : ℕ) → n < 2 ^ i → ones (n + 2 ^ i) ≡ ones n + 1
+unfolding ones
+driven_more n i h = ap ones (add_comm n (2 ^ i) ∙ ap (λ (x : ℕ). x + n) (sym (one-mul (2 ^ i)))) ∙ ones_cat i 1 n h ∙ add_comm 1 (ones n)
+
+alike_beaten : (q : Cube) (i j level other : ℕ) (best : Option Cube) → q.driven < 2 ^ i → q.driven < 2 ^ j → fewer (drive q i level) best ≡ fewer (drive q j other) best
+alike_beaten q i j level other None h k = refl
+alike_beaten q i j level other (Some best) h k = ap (λ (n : ℕ). ltb n (ones best.driven)) (driven_more q.driven i h ∙ sym (driven_more q.driven j k))
 
 -- One turn of the visit below the cube q, in which input i is driven.
 module _ (K : Kind) (s : Setting) (q : Cube) (i : ℕ) (h : i < input_count s) where
@@ -80,3 +107,12 @@ module _ (K : Kind) (s : Setting) (q : Cube) (i : ℕ) (h : i < input_count s) w
     -- given up in the branch of 1
     pub given_up_second : (p1 : Progress) → Meets 1 p0 p1 → p1.spent ≡ true → p1 ≡ below_from K s i q p
     given_up_second p1 one_met spent = sym (below_given_up judge s.budget inputs (inputs - (i + 1)) q p1 spent) ∙ turned p1 one_met
+
+  -- where the next cube drives too many inputs, all that is left is passed over
+  pub below_passed_over : (p : Progress) (low : Cube) → q.driven < 2 ^ i → low ≡ drive q i 0 → fewer low p.best ≡ false → below_from K s i q p ≡ p
+  below_passed_over p low lower is beaten =
+      below_beaten judge s.budget inputs (inputs - i) q p
+      (λ j level above.
+        alike_beaten q j i level 0 p.best (omega (arith, lower, pow_mono {i = i} {j = j} (omega (arith, above)))) lower
+        ∙ ap (λ (x : Cube). fewer x p.best) (sym is)
+        ∙ beaten)

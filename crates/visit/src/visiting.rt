@@ -3,8 +3,9 @@ ghost use Rattle.std.specs.Prelude.{◌≡◌, ◌+◌, ◌≤◌, false, length
 ghost use Rattle.faults.specs.Cubes.{nothing_driven};
 ghost use Rattle.simulator.specs.Simulation.{drives_beyond};
 ghost use Rattle.simulator.specs.Callers.{HasRoom, RowKept, SocketEmptied};
+ghost use Rattle.simulator.specs.Resimulation.{Holds};
 ghost use Rattle.visit.specs.Visiting.{drive};
-ghost use Rattle.visit.specs.Settings.{verdict_in, input_count, below_branch, branch_met};
+ghost use Rattle.visit.specs.Settings.{verdict_in, input_count, below_branch, branch_met, HoldsSimulated};
 ghost use Rattle.visit.specs.Visits.{going_on, left, Visits};
 
 use crate::answer::Answer;
@@ -13,7 +14,7 @@ use crate::progress::{BudgetSpent, Progress};
 use circuit::Circuit;
 use faults::{Cube, Fault};
 use refusals::FolderRefusal;
-use simulator::{Socket, Verdict, allow_row, simulate};
+use simulator::{Fanout, Socket, Verdict, allow_row, resimulate, simulate};
 use values::kind::ValueKind;
 
 impl Branch {
@@ -42,23 +43,28 @@ impl Branch {
     }
 }
 
-// What a visit leaves as it is: the circuit, the socket with the fault, and how many tries it may make. (The row, which each try
-// writes, is no part: three contracts would lose the clause `room`, and the same three gain one that the other parts stay.)
+// What a visit leaves as it is: the circuit with its fan-out, the socket with the fault, and how many tries it may make. (The row,
+// which each try writes, is no part: it changes with the progress, and the contracts say so of both.)
 #[derive(Clone, Copy)]
 struct Setting<'a> {
-    circuit: &'a Circuit,
+    fanout: &'a Fanout<'a>,
     socket: &'a Socket,
     budget: usize,
 }
 
 impl Setting<'_> {
     // The verdict on a cube of the circuit's inputs, in a row with room for each line.
-    fn verdict_on<V: ValueKind>(&self, cube: Cube, row: &mut [V]) -> Verdict
-        requires inside { drives_beyond self.now.circuit.now cube ≡ false }
-        requires room { HasRoom self.now.circuit.now row.old }
-        ensures { result ≡ verdict_in V.ValueKind.kind self.now cube }
+    fn try_cube<V: ValueKind>(&self, cube: Cube, progress: &mut Progress, row: &mut [V]) -> Verdict
+        requires inside { drives_beyond self.now.fanout.now.circuit.now cube ≡ false }
+        requires room { HasRoom self.now.fanout.now.circuit.now row.old }
+        requires held { HoldsSimulated V.ValueKind.kind V.ValueKind.meaning self.now progress.old row.old }
+        ensures verdict { result ≡ verdict_in V.ValueKind.kind self.now cube }
+        ensures progress { progress.new ≡ record { best = progress.old.best; tries = progress.old.tries; simulated = cube } }
+        ensures held { HoldsSimulated V.ValueKind.kind V.ValueKind.meaning self.now progress.new row.new }
     {
-        simulate(self.circuit, cube, self.socket, row).unwrap()
+        let verdict = resimulate(self.fanout, progress.simulated, cube, self.socket, row).unwrap();
+        progress.simulated = cube;
+        verdict
     }
 
     // Meets a cube: tries it, if it drives fewer inputs than the best, and goes on below it, if it is unsure.
@@ -69,9 +75,11 @@ impl Setting<'_> {
         progress: &mut Progress,
         row: &mut [V],
     ) -> Result<(), BudgetSpent>
-        requires room { HasRoom self.now.circuit.now row.old }
+        requires room { HasRoom self.now.fanout.now.circuit.now row.old }
         requires inside { branch.next ≤ input_count self.now }
-        ensures { left progress.new result ≡ branch_met V.ValueKind.kind self.now branch (going_on progress.old) }
+        requires held { HoldsSimulated V.ValueKind.kind V.ValueKind.meaning self.now progress.old row.old }
+        ensures visits { left progress.new result ≡ branch_met V.ValueKind.kind self.now branch (going_on progress.old) }
+        ensures held { HoldsSimulated V.ValueKind.kind V.ValueKind.meaning self.now progress.new row.new }
     {
         if !progress.is_beaten_by(branch.cube) {
             return Ok(());
@@ -80,7 +88,7 @@ impl Setting<'_> {
             return Err(BudgetSpent);
         }
         progress.tries += 1;
-        match self.verdict_on(branch.cube, row) {
+        match self.try_cube(branch.cube, progress, row) {
             Verdict::Shows => {
                 progress.best = Some(branch.cube);
                 Ok(())
@@ -90,7 +98,7 @@ impl Setting<'_> {
         }
     }
 
-    // Visits all cubes below one.
+    // Visits all cubes below one, as long as these drive fewer inputs than the best.
     #[cycle(go_below_meet)]
     fn go_below<V: ValueKind>(
         &self,
@@ -98,12 +106,18 @@ impl Setting<'_> {
         progress: &mut Progress,
         row: &mut [V],
     ) -> Result<(), BudgetSpent>
-        requires room { HasRoom self.now.circuit.now row.old }
+        requires room { HasRoom self.now.fanout.now.circuit.now row.old }
         requires inside { branch.next ≤ input_count self.now }
-        ensures { left progress.new result ≡ below_branch V.ValueKind.kind self.now branch (going_on progress.old) }
+        requires held { HoldsSimulated V.ValueKind.kind V.ValueKind.meaning self.now progress.old row.old }
+        ensures visits { left progress.new result ≡ below_branch V.ValueKind.kind self.now branch (going_on progress.old) }
+        ensures held { HoldsSimulated V.ValueKind.kind V.ValueKind.meaning self.now progress.new row.new }
     {
-        for input in branch.next..self.circuit.input_count() {
-            self.meet(branch.driving(input, false), progress, row)?;
+        for input in branch.next..self.fanout.circuit.input_count() {
+            let low = branch.driving(input, false);
+            if !progress.is_beaten_by(low.cube) {
+                return Ok(());
+            }
+            self.meet(low, progress, row)?;
             self.meet(branch.driving(input, true), progress, row)?;
         }
         Ok(())
@@ -125,14 +139,16 @@ pub fn visit<V: ValueKind>(
     ensures row { RowKept result row.old row.new }
 {
     allow_row(circuit, row.len())?;
-    let mut progress = Progress::new();
     let plug = socket.plug(fault);
+    let whole = Branch::whole();
+    simulate(circuit, whole.cube, plug.socket(), row).unwrap();
     let setting = Setting {
-        circuit,
+        fanout: &Fanout::new(circuit),
         socket: plug.socket(),
         budget,
     };
-    let end = setting.meet(Branch::whole(), &mut progress, row);
+    let mut progress = Progress::new(whole.cube);
+    let end = setting.meet(whole, &mut progress, row);
     plug.unplug();
     Ok(progress.answer(end))
 }

@@ -11,5 +11,5 @@ returns-clause-visits g c =
     let places = length c.args.row.now in
     visits v.kind v.family g.met.V.ValueKind.lawful model c.args.fault c.args.budget places c.answer.result c.in_ok-allow_row.ensures
     (visit_is v.kind v.family g.met.V.ValueKind.lawful model c.args.fault c.args.budget places
-    c.socket.result.now.fault c.whole.result.cube c.whole.result.next (going_on c.new-progress.result) (left c.meet-end.new.progress c.meet-end.result) c.answer.result
-    (ap (λ (s : Socket). s.fault) c.socket.ensures ∙ c.plug-plug.ensures.holds) c.whole.ensures.cube c.whole.ensures.next c.new-progress.ensures c.meet-end.ensures c.answer.ensures)
+    c.new.result.circuit.now c.socket-2.result.now.fault c.whole-whole.result.cube c.whole-whole.result.next (going_on c.new-progress.result) (left c.meet-end.new.progress c.meet-end.result) c.answer.result
+    c.new.ensures (ap (λ (s : Socket). s.fault) c.socket-2.ensures ∙ c.plug-plug.ensures.holds) c.whole-whole.ensures.cube c.whole-whole.ensures.next c.new-progress.ensures.start c.meet-end.ensures.visits c.answer.ensures)
