@@ -98,7 +98,6 @@ pub struct Gate {
     pub operator: Operator,
     first_operand: u16,
     operand_count: u8,
-    first_step: u16,
 }
 
 pub struct Circuit {
@@ -179,7 +178,6 @@ impl Circuit {
             operator,
             first_operand: self.operands.len() as u16,
             operand_count: operands.len() as u8,
-            first_step: self.steps.len() as u16,
         });
         self.operands.extend_from_slice(operands);
         self.names.push(None);

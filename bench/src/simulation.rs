@@ -1,6 +1,6 @@
 //! Simulating a cube with a fault plugged.
 
-use crate::circuit::{Circuit, Join, MOST_LINES, Operator, Step};
+use crate::circuit::{Circuit, MOST_LINES, Operator, Step};
 use crate::faults::{Cube, Fault};
 use crate::values::ValueKind;
 
@@ -39,14 +39,7 @@ impl<V: ValueKind> Row<V> {
         for step in steps {
             let left = self.get(step.left);
             let right = self.get(step.right);
-            let value = match step.join {
-                Join::And => left.and(right),
-                Join::Nand => left.and(right).not(),
-                Join::Or => left.or(right),
-                Join::Nor => left.or(right).not(),
-                Join::Xor => left.xor(right),
-                Join::Xnor => left.xor(right).not(),
-            };
+            let value = V::join(step.join, left, right);
             self.set(step.target, value);
         }
     }

@@ -3,7 +3,16 @@
 //! Every kind keeps four bits: that the good level can be 0, that it can be 1, and the same two of the faulty level. A half with
 //! both bits is unknown. The kinds differ in which unknown halves they keep.
 
+use crate::circuit::Join;
 use std::fmt::Debug;
+
+/// The joins by join, left and right value: a lookup needs no branch, and mixed gates would be hard to predict.
+pub type JoinTable<V> = [V; 2048];
+
+#[inline(always)]
+const fn join_index(join: Join, left: u8, right: u8) -> usize {
+    ((join as usize) << 8 | (left as usize) << 4 | right as usize) % 2048
+}
 
 pub trait ValueKind: Copy + Debug + PartialEq {
     const UNKNOWN: Self;
@@ -12,6 +21,8 @@ pub trait ValueKind: Copy + Debug + PartialEq {
     fn and(self, other: Self) -> Self;
     fn or(self, other: Self) -> Self;
     fn xor(self, other: Self) -> Self;
+    /// What the join gives of two values.
+    fn join(join: Join, left: Self, right: Self) -> Self;
     /// Puts the level for the faulty level.
     fn stick(self, level: bool) -> Self;
     /// Whether the two levels are known and unequal.
@@ -28,22 +39,22 @@ const GOOD: u8 = 0b0011;
 const ALL: u8 = 0b1111;
 
 #[inline(always)]
-fn not(value: u8) -> u8 {
+const fn not(value: u8) -> u8 {
     (value & ZEROS) << 1 | (value & ONES) >> 1
 }
 
 #[inline(always)]
-fn and(left: u8, right: u8) -> u8 {
+const fn and(left: u8, right: u8) -> u8 {
     left & right | (left | right) & ZEROS
 }
 
 #[inline(always)]
-fn or(left: u8, right: u8) -> u8 {
+const fn or(left: u8, right: u8) -> u8 {
     left & right | (left | right) & ONES
 }
 
 #[inline(always)]
-fn xor(left: u8, right: u8) -> u8 {
+const fn xor(left: u8, right: u8) -> u8 {
     let equal = left & right;
     let unequal = left & not(right);
     (equal | equal >> 1) & ZEROS | (unequal | unequal << 1) & ONES
@@ -54,7 +65,6 @@ fn stick(value: u8, level: bool) -> u8 {
     value & GOOD | 0b0100 << u8::from(level)
 }
 
-/// Both halves known, with these levels: the four values as bits of a word.
 #[inline(always)]
 fn is_one_of(value: u8, first: u8, second: u8) -> bool {
     (1u16 << first | 1 << second) >> value & 1 != 0
@@ -67,14 +77,39 @@ macro_rules! kind {
         pub struct $name(u8);
 
         impl $name {
+            const JOINS: JoinTable<Self> = {
+                let mut joins = [$name(ALL); 2048];
+                let mut pair = 0;
+                while pair < 256 {
+                    let (left, right) = (pair as u8 >> 4, pair as u8 & ALL);
+                    let both = Self::narrowed(and(left, right));
+                    let either = Self::narrowed(or(left, right));
+                    let differ = Self::narrowed(xor(left, right));
+                    joins[join_index(Join::And, left, right)] = both;
+                    joins[join_index(Join::Nand, left, right)] = $name(not(both.0));
+                    joins[join_index(Join::Or, left, right)] = either;
+                    joins[join_index(Join::Nor, left, right)] = $name(not(either.0));
+                    joins[join_index(Join::Xor, left, right)] = differ;
+                    joins[join_index(Join::Xnor, left, right)] = $name(not(differ.0));
+                    pair += 1;
+                }
+                joins
+            };
+
             #[inline(always)]
-            fn narrowed($value: u8) -> Self {
+            const fn narrowed($value: u8) -> Self {
                 $name($narrowed)
             }
         }
 
         impl ValueKind for $name {
             const UNKNOWN: Self = $name(ALL);
+
+            #[inline(always)]
+            fn join(join: Join, left: Self, right: Self) -> Self {
+                static JOINS: JoinTable<$name> = $name::JOINS;
+                JOINS[join_index(join, left.0, right.0)]
+            }
 
             #[inline(always)]
             fn known(level: bool) -> Self {
