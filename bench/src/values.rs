@@ -162,13 +162,13 @@ kind! {
 
 kind! {
     /// Where the good half is unknown, the faulty half is too.
-    Seven, value => value | (value & value >> 1 & 1) * 0b1100
+    Seven, value => value | ((value & value >> 1 & 1) * 0b1100)
 }
 
 kind! {
     /// Where one half is unknown, the other is too.
     Five, value => {
         let unknown = value & value >> 1;
-        value | ((unknown | unknown >> 2) & 1) * ALL
+        value | (((unknown | unknown >> 2) & 1) * ALL)
     }
 }
