@@ -1,0 +1,6 @@
+use bench::cone::ConeVisits;
+use std::process::ExitCode;
+
+fn main() -> ExitCode {
+    bench::program::run::<ConeVisits>()
+}
