@@ -858,12 +858,53 @@ fn noise(random: &mut Random) -> Vec<u8> {
     text
 }
 
+/// Enters faults of a small circuit with much that meets again, searches each of them to the end, and covers.
+fn searched(random: &mut Random) -> Vec<u8> {
+    let plan = Plan {
+        inputs: random.between(3, 7),
+        gates: random.between(5, 14),
+        deepest: random.between(1, 2),
+        most_operands: random.between(2, 3),
+        nested: random.between(0, 30),
+        outputs: random.between(1, 3),
+    };
+    let circuit = Circuit::random(random, &plan);
+    let mut lines = circuit.words.clone();
+    lines.push(job("kind", &[*random.pick(&KINDS)]));
+    let mut faults = Vec::new();
+    for line in &circuit.lines {
+        for pin in 0..=line.pins {
+            for level in ["0", "1"] {
+                faults.push(job("fault", &[&line.name, &pin.to_string(), level]));
+            }
+        }
+    }
+    shuffle(random, &mut faults);
+    faults.truncate(random.between(10, 40));
+    let entries = faults.len();
+    lines.extend(faults);
+    let covering = random.percent(50);
+    for number in 0..entries {
+        let number = number.to_string();
+        if random.percent(10) {
+            lines.push(job("search", &[&number, &random.between(1, 200).to_string()]));
+        }
+        lines.push(job("search", &[&number, &random.between(10_000, MOST_TRIES).to_string()]));
+        if covering && random.percent(30) {
+            lines.push(job("cover", &[&number]));
+        }
+    }
+    lines.push(job("list", &[]));
+    render(random, &lines)
+}
+
 fn text(random: &mut Random) -> Vec<u8> {
     match random.below(100) {
-        0..40 => {
+        0..30 => {
             let (circuit, jobs) = valid(random);
             render(random, &whole(&circuit, &jobs))
         }
+        30..40 => searched(random),
         40..55 => at_a_limit(random),
         55..97 => damaged(random),
         _ => noise(random),
