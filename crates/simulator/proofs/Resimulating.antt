@@ -1,5 +1,5 @@
 -- Working out again what a change of the cube can have changed.
-use Rattle.std.proofs.Common.{◌≡◌, ℕ, zero, suc, ◌+◌, ◌<◌, ◌≤◌, ◌/◌, ◌%◌, ◌^◌, max, Bool, true, false, cond, eqb, ltb, List, [], ◌∷◌, ◌++◌, map, length, take, drop, get_or, set, Option, All, ◌⊎◌, sym, refl, subst, ap, ◌∙◌, inl, inr, arith}
+use Rattle.std.proofs.Common.{◌≡◌, ℕ, zero, suc, ◌+◌, ◌-◌, ◌<◌, ◌≤◌, ◌/◌, ◌%◌, ◌^◌, max, Bool, true, false, cond, eqb, ltb, List, [], ◌∷◌, ◌++◌, map, length, take, drop, get_or, set, Option, All, ◌⊎◌, sym, refl, subst, ap, ◌∙◌, inl, inr, arith}
 use Rattle.std.proofs.lemmas.Bool.{cases_eq, and_parts, ltb-true}
 use lib.Bits.{bit_or}
 use Rattle.std.specs.Int.Bits.{bit_xor}
@@ -7,18 +7,19 @@ use Rattle.std.proofs.lemmas.Nat.Bits.{bit_at_or, bit_at_xor, bit_at-lt}
 use Rattle.std.proofs.Math.ListN.{get_or-append}
 use Rattle.std.proofs.Math.Seq.{take-length, take-append_seam, get_or-append_seam}
 use Rattle.std.proofs.lemmas.Grind.{common_steps}
-use Rattle.std.proofs.lemmas.List.{get_or_default, get_or-take, length-map, set-get_or, take-map, take-take, length-take-le}
+use Rattle.std.proofs.lemmas.List.{get_or_default, get_or-take, get_or-drop, drop-drop, drop_more, length-drop, length-map, set-get_or, take-map, take-take, length-take-le}
 use Rattle.values.specs.Pairs.{Pairs, only}
 use Rattle.values.specs.Values.{Values}
 use Rattle.values.specs.Kind.{Kind}
+use Rattle.std.specs.Prelude.{slice_index_or}
 use Rattle.std.specs.List.{list_all}
 use Rattle.circuit.specs.Ops.{fewest_operands, most_operands}
 use Rattle.circuit.specs.Model.{Gate, Circuit, line_count}
-use Rattle.circuit.specs.Lawful.{between, gate_fits}
+use Rattle.circuit.specs.Lawful.{between, gate_fits, each_after}
 use Rattle.faults.specs.declared.fault.Fault.{Fault}
 use Rattle.simulator.specs.declared.line_set.LineSet.{LineSet}
 use Rattle.simulator.specs.LineSets.{has, Includes}
-use Rattle.simulator.specs.Fanouts.{none_reads, operands_at, Complete}
+use Rattle.simulator.specs.Fanouts.{none_reads, operands_at, no_gate, Complete}
 use Rattle.simulator.specs.Lines.{line_value, operands_from, joined, negated_by, at_pin, gate_value, gates_after, inputs_row, lines}
 use Rattle.faults.specs.Cubes.{Cube}
 use Rattle.simulator.specs.Detection.{bit, input_value, simulated, set_of}
@@ -230,13 +231,105 @@ module _ {V : Type 0} (K : Kind) (meaning : V → Pairs) (f : Option Fault) (lin
         waits = waits_more (line + 1) line gates readers waiting more old new noted t.keeps (waits_next line g gates waiting old new s.waits) turn;
       }
 
--- the numbers and lists of one turn, as a loop over lines and gates has them
-pub settling_at : {V : Type 0} (K : Kind) (meaning : V → Pairs) (f : Option Fault) (start line : ℕ) (all gates : List Gate) (readers : List LineSet) (waiting : LineSet)
-    (old new : List Pairs) (row : List V) → line ≡ start → all ≡ gates
-    → Settling K meaning f start all readers waiting old new row → Settling K meaning f line gates readers waiting old new row
-settling_at K meaning f start line all gates readers waiting old new row at is s =
-    subst (λ (n : ℕ). Settling K meaning f n gates readers waiting old new row) (sym at)
-    (subst (λ (gs : List Gate). Settling K meaning f start gs readers waiting old new row) is s)
+-- each gate fits its line
+abbrev pub FitFrom : ℕ → List Gate → Type 0
+FitFrom line gates = (k : ℕ) → k < length gates → gate_fits (line + k) (slice_index_or gates k no_gate) ≡ true
+
+fit_from : (inputs line : ℕ) (before gates : List Gate) → inputs + length before ≡ line
+    → each_after (λ (b : List Gate). gate_fits (inputs + length b)) before gates ≡ true → FitFrom line gates
+fit_from inputs line before [] at e k h = absurd (omega arith)
+fit_from inputs line before (g ∷ gates) at e zero h =
+    let first = (and_parts (gate_fits (inputs + length before) g) _ e).0 in
+    ap (λ (n : ℕ). gate_fits n g) (omega (arith, at)) ∙ first
+fit_from inputs line before (g ∷ gates) at e (suc k) h =
+    let rest = (and_parts (gate_fits (inputs + length before) g) _ e).1 in
+    ap (λ (n : ℕ). gate_fits n (slice_index_or gates k no_gate)) (omega arith)
+    ∙ fit_from inputs (line + 1) (before ++ (g ∷ [])) gates (grind (arith, common_steps, at)) rest k (omega arith)
+
+pub fit_all : (inputs : ℕ) (gates : List Gate) → each_after (λ (b : List Gate). gate_fits (inputs + length b)) [] gates ≡ true → FitFrom inputs gates
+fit_all inputs gates e = fit_from inputs inputs [] gates (omega arith) e
+
+pub fit_later : (line n : ℕ) (gates : List Gate) → FitFrom line gates → FitFrom (line + n) (drop n gates)
+fit_later line n gates fit k h =
+    ap (λ (m : ℕ). gate_fits m (slice_index_or (drop n gates) k no_gate)) (omega arith)
+    ∙ ap (gate_fits (line + (n + k))) (get_or-drop n gates k no_gate)
+    ∙ fit (n + k) (omega (arith, h, length-drop n gates))
+
+module _ {V : Type 0} (K : Kind) (meaning : V → Pairs) (f : Option Fault) (readers : List LineSet) (waiting : LineSet) (old new : List Pairs) (row : List V) where
+  -- so many gates do not wait
+  pub settled_skips : (n line : ℕ) (gates : List Gate) → n ≤ length gates → line + length gates ≡ length row → FitFrom line gates
+      → ((k : ℕ) → line ≤ k → k < line + n → has waiting k ≡ false)
+      → Settling K meaning f line gates readers waiting old new row → Settling K meaning f (line + n) (drop n gates) readers waiting old new row
+  settled_skips zero line gates few room fit lacking s = subst (λ (m : ℕ). Settling K meaning f m gates readers waiting old new row) (omega arith) s
+  settled_skips (suc n) line [] few room fit lacking s = absurd (omega arith)
+  settled_skips (suc n) line (g ∷ gates) few room fit lacking s =
+      let first : gate_fits line g ≡ true = ap (λ (m : ℕ). gate_fits m g) (omega arith) ∙ fit 0 (omega arith) in
+      let later : FitFrom (line + 1) gates = λ k h. ap (λ (m : ℕ). gate_fits m (slice_index_or gates k no_gate)) (omega arith) ∙ fit (suc k) (omega arith) in
+      subst (λ (m : ℕ). Settling K meaning f m (drop n gates) readers waiting old new row) (omega arith)
+      (settled_skips n (line + 1) gates (omega arith) (omega (arith, room)) later (λ k at below. lacking k (omega (arith, at)) (omega (arith, below)))
+      (settled_skip K meaning f line g gates readers waiting old new row (omega (arith, room)) first s (lacking line (omega arith) (omega arith))))
+
+  -- where none waits any more, all lines have the new sets
+  pub settled_end : (line : ℕ) (gates : List Gate) → line + length gates ≡ length row → FitFrom line gates
+      → ((k : ℕ) → line ≤ k → k < length row → has waiting k ≡ false)
+      → Settling K meaning f line gates readers waiting old new row → map meaning row ≡ new
+  settled_end line gates room fit lacking s =
+      let all : Settling K meaning f (line + length gates) (drop (length gates) gates) readers waiting old new row =
+        settled_skips (length gates) line gates (omega arith) room fit (λ k at below. lacking k at (omega (arith, below, room))) s in
+      all.turned ∙ grind (arith, common_steps, room, s.old_long, s.new_long)
+
+-- The gates that are left of all, the first of which has that line.
+abbrev pub gates_from : ℕ → ℕ → List Gate → List Gate
+gates_from inputs line gates = drop (line - inputs) gates
+
+module _ (inputs : ℕ) (all : List Gate) (fit : FitFrom inputs all) where
+  fit_left : (line : ℕ) → inputs ≤ line → FitFrom line (gates_from inputs line all)
+  fit_left line from =
+      subst (λ (m : ℕ). FitFrom m (gates_from inputs line all)) (omega (arith, from)) (fit_later inputs (line - inputs) all fit)
+
+  -- the gate of a line
+  pub gate_fit : (line : ℕ) → inputs ≤ line → line < inputs + length all → gate_fits line (slice_index_or all (line - inputs) no_gate) ≡ true
+  gate_fit line from below =
+      ap (λ (m : ℕ). gate_fits m (slice_index_or all (line - inputs) no_gate)) (omega (arith, from)) ∙ fit (line - inputs) (omega (arith, from, below))
+
+  left_length : (line places : ℕ) → inputs ≤ line → line ≤ places → inputs + length all ≡ places → line + length (gates_from inputs line all) ≡ places
+  left_length line places from within room = omega (arith, from, within, room, length-drop (line - inputs) all)
+
+  module _ {V : Type 0} (K : Kind) (meaning : V → Pairs) (f : Option Fault) (readers : List LineSet) (waiting : LineSet) (old new : List Pairs) (row : List V)
+      (room : inputs + length all ≡ length row) (line : ℕ) (from : inputs ≤ line) (within : line ≤ length row)
+      (s : Settling K meaning f line (gates_from inputs line all) readers waiting old new row) where
+    -- the gates up to the next that waits are passed over
+    pub left_until : (next : ℕ) → line ≤ next → next ≤ length row → ((k : ℕ) → line ≤ k → k < next → has waiting k ≡ false)
+        → Settling K meaning f next (gates_from inputs next all) readers waiting old new row
+    left_until next at small lacking =
+        let n : ℕ = next - line in
+        let here : line + n ≡ next = omega (arith, at) in
+        let gates : drop n (gates_from inputs line all) ≡ gates_from inputs next all =
+          drop-drop n (line - inputs) all ∙ ap (λ (m : ℕ). drop m all) (omega (arith, from, at)) in
+        subst (λ (gs : List Gate). Settling K meaning f next gs readers waiting old new row) gates
+        (subst (λ (m : ℕ). Settling K meaning f m (drop n (gates_from inputs line all)) readers waiting old new row) here
+        (settled_skips K meaning f readers waiting old new row n line (gates_from inputs line all)
+        (omega (arith, left_length line (length row) from within room, small)) (left_length line (length row) from within room) (fit_left line from)
+        (λ k h below. lacking k h (omega (arith, below, here))) s))
+
+    -- and it is worked out
+    pub left_turn : (next : ℕ) (value : V) (after : List V) (more : LineSet) → line ≤ next → next < length row → ((k : ℕ) → line ≤ k → k < next → has waiting k ≡ false)
+        → meaning value ≡ gate_value K.values f (map meaning (take next row)) (slice_index_or all (next - inputs) no_gate)
+        → Turns meaning next value (get_or readers next none_reads) waiting row after more
+        → Settling K meaning f (next + 1) (gates_from inputs (next + 1) all) readers more old new after
+    left_turn next value after more at small lacking worked t =
+        let g : Gate = slice_index_or all (next - inputs) no_gate in
+        let gates : List Gate = gates_from inputs (next + 1) all in
+        let first : gates_from inputs next all ≡ g ∷ gates =
+          drop_more all (next - inputs) no_gate (omega (arith, from, at, small, room)) ∙ ap (λ (m : ℕ). g ∷ drop m all) (omega (arith, from, at)) in
+        settled_turn K meaning f next g gates readers waiting old new row small (gate_fit next (omega (arith, from, at)) (omega (arith, small, room)))
+        (subst (λ (gs : List Gate). Settling K meaning f next gs readers waiting old new row) first (left_until next at (omega (arith, small)) lacking))
+        value after more worked t
+
+    -- or none waits any more
+    pub left_end : ((k : ℕ) → line ≤ k → k < length row → has waiting k ≡ false) → map meaning row ≡ new
+    left_end lacking =
+        settled_end K meaning f readers waiting old new row line (gates_from inputs line all) (left_length line (length row) from within room) (fit_left line from) lacking s
 
 -- The lines of a circuit, its inputs' first.
 module _ {V : Type 0} (A : Values V) (f : Option Fault) (input : ℕ → V) where

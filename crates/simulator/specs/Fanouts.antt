@@ -17,9 +17,13 @@ Noted line operands readers = All (λ (o : ℕ). has (slice_index_or readers o n
 abbrev pub Keeps : List LineSet → List LineSet → Type 0
 Keeps before after = (length after ≡ length before) × ((o : ℕ) → Includes (slice_index_or after o none_reads) (slice_index_or before o none_reads))
 
+-- no operands, for a gate that is not there
+abbrev pub no_gate : Gate
+no_gate = record { name = None; op = And; operands = [] }
+
 -- the operands of a gate, by its place among the gates
 abbrev pub operands_at : List Gate → ℕ → List ℕ
-operands_at gates k = (slice_index_or gates k (record { name = None; op = And; operands = [] })).operands
+operands_at gates k = (slice_index_or gates k no_gate).operands
 
 -- each of these gates, the first of which has that line, is noted
 abbrev pub Complete : ℕ → List Gate → List LineSet → Type 0

@@ -1,6 +1,6 @@
 // Which gates read each line of a circuit.
 ghost use Rattle.std.specs.Prelude.{◌≡◌, ◌+◌, ◌<◌, ◌≤◌, true, ℕ, List, [], map, length, All};
-ghost use Rattle.circuit.specs.Model.{Gate as GateModel};
+ghost use Rattle.circuit.specs.Model.{Gate as GateModel, line_count};
 ghost use Rattle.circuit.specs.Lawful.{gate_fits, each_after};
 ghost use Rattle.circuit.specs.Tables.{gate_model};
 ghost use Rattle.simulator.specs.Fanouts.{Keeps, Noted, Complete};
@@ -15,6 +15,7 @@ pub struct Fanout<'a> {
     pub circuit: &'a Circuit,
     pub(crate) readers: [LineSet; MOST_LINES],
     ghost complete: { Complete (length circuit.now.inputs) circuit.now.gates readers },
+    ghost few: { line_count circuit.now ≤ 512 },
 }
 
 // Notes the gate of a line at each line that it reads.

@@ -1,11 +1,23 @@
 // A set of lines of a circuit.
-ghost use Rattle.std.specs.Prelude.{◌≡◌, ◌<◌, ℕ, true, false};
-ghost use Rattle.simulator.specs.LineSets.{has, Includes};
+ghost use Rattle.std.specs.Prelude.{◌≡◌, ◌<◌, ◌≤◌, ℕ, true, false};
+ghost use Rattle.simulator.specs.LineSets.{has, LowestFrom, NextFrom, Includes};
 
 // A bit for each line. (Words and no list of numbers: a set is joined to another at each line that changes.)
 #[derive(Clone, Copy)]
 pub struct LineSet {
     words: [u64; 8],
+}
+
+// The place of the lowest 1 of a word, from that place on.
+fn lowest_from(word: u64, from: usize) -> Option<usize>
+    requires { from < 64 }
+    ensures { LowestFrom word from result }
+{
+    let rest = word >> from;
+    if rest == 0 {
+        return None;
+    }
+    Some(from + rest.trailing_zeros() as usize)
 }
 
 impl LineSet {
@@ -14,12 +26,24 @@ impl LineSet {
         LineSet { words: [0; 8] }
     }
 
-    // Whether the line is one of them.
-    pub fn has(&self, line: usize) -> bool
-        requires { line < 512 }
-        ensures { result ≡ has self.now line }
+    // The first of the lines from that one on.
+    pub fn next_from(&self, line: usize) -> Option<usize>
+        requires { line ≤ 512 }
+        ensures { NextFrom self.now line result }
     {
-        (self.words[line / 64] >> (line % 64)) % 2 == 1
+        if line == 512 {
+            return None;
+        }
+        let first = line / 64;
+        if let Some(place) = lowest_from(self.words[first], line % 64) {
+            return Some(64 * first + place);
+        }
+        for index in first + 1..8 {
+            if let Some(place) = lowest_from(self.words[index], 0) {
+                return Some(64 * index + place);
+            }
+        }
+        None
     }
 
     // These and the line.
@@ -33,15 +57,13 @@ impl LineSet {
         LineSet { words }
     }
 
-    // These and those.
-    pub fn and(self, other: &LineSet) -> LineSet
-        ensures these { Includes result self }
-        ensures those { Includes result other.now }
+    // Adds those of another set.
+    pub fn add_all(&mut self, other: &LineSet)
+        ensures these { Includes self.new self.old }
+        ensures those { Includes self.new other.now }
     {
-        let LineSet { mut words } = self;
         for index in 0..8 {
-            words[index] |= other.words[index];
+            self.words[index] |= other.words[index];
         }
-        LineSet { words }
     }
 }

@@ -29,15 +29,20 @@ fn changed_inputs(before: Cube, cube: Cube) -> u64
 }
 
 // Writes the value of a line. If it is another one than before, those that read the line wait to be worked out too.
-fn turn<V: ValueKind>(line: usize, value: V, readers: &LineSet, waiting: LineSet, row: &mut [V]) -> LineSet
+fn turn<V: ValueKind>(
+    line: usize,
+    value: V,
+    readers: &LineSet,
+    waiting: &mut LineSet,
+    row: &mut [V],
+)
     requires { line < length row.old }
-    ensures { Turns V.ValueKind.meaning line value readers.now waiting row.old row.new result }
+    ensures { Turns V.ValueKind.meaning line value readers.now waiting.old row.old row.new waiting.new }
 {
-    if value.equals(row[line]) {
-        return waiting;
+    if !value.equals(row[line]) {
+        row[line] = value;
+        waiting.add_all(readers);
     }
-    row[line] = value;
-    waiting.and(readers)
 }
 
 // Works out the lines of the changed inputs: the gates that wait afterwards.
@@ -59,7 +64,7 @@ fn redrive<V: ValueKind>(
     for input in 0..inputs {
         if (changed >> input) % 2 == 1 {
             let value = at_pin(fault, input, 0, input_value(cube, input));
-            waiting = turn(input, value, &readers[input], waiting, row);
+            turn(input, value, &readers[input], &mut waiting, row);
         }
     }
     waiting
@@ -81,11 +86,14 @@ fn resettle<V: ValueKind>(
     ensures { Resettles V.ValueKind.kind V.ValueKind.meaning fault inputs (map gate_model gates.now) readers.now waiting row.old row.new }
 {
     let mut waiting = waiting;
-    for (line, gate) in (inputs..).zip(gates) {
-        if waiting.has(line) {
-            let value = gate_value(gate, fault, &row[..line]);
-            waiting = turn(line, value, &readers[line], waiting, row);
-        }
+    let mut line = inputs;
+    'lines: while let Some(next) = waiting.next_from(line) {
+        let Some(gate) = gates.get(next - inputs) else {
+            break;
+        };
+        let value = gate_value(gate, fault, &row[..next]);
+        turn(next, value, &readers[next], &mut waiting, row);
+        line = next + 1;
     }
 }
 

@@ -2,7 +2,7 @@
 ghost use Rattle.values.specs.Five.{five, five_meaning, five_sets};
 ghost use Rattle.values.specs.Made.{Among};
 ghost use Rattle.values.specs.Laws.{five_laws};
-ghost use Rattle.std.proofs.Common.{rules};
+ghost use Rattle.std.proofs.Common.{rules, arith};
 
 use crate::kind::ValueKind;
 
@@ -26,6 +26,8 @@ impl ValueKind for Five {
     ghost lawful = { five_laws };
 
     ghost admitted = { Prim.search rules };
+
+    ghost small = { omega arith };
 
     fn known(level: bool) -> Five {
         Five::Pair(level, level)

@@ -43,10 +43,12 @@ impl BitAnd for Half {
     ghost bitand_gives = { λ half other result. result ≡ half_and half other };
 
     fn bitand(self, other: Half) -> Half {
-        match (self, other) {
-            (Half::Zero, _) | (_, Half::Zero) => Half::Zero,
-            (Half::One, Half::One) => Half::One,
-            _ => Half::Unknown,
+        if (self == Half::Zero) | (other == Half::Zero) {
+            Half::Zero
+        } else if (self == Half::One) & (other == Half::One) {
+            Half::One
+        } else {
+            Half::Unknown
         }
     }
 }
@@ -57,10 +59,12 @@ impl BitOr for Half {
     ghost bitor_gives = { λ half other result. result ≡ half_or half other };
 
     fn bitor(self, other: Half) -> Half {
-        match (self, other) {
-            (Half::One, _) | (_, Half::One) => Half::One,
-            (Half::Zero, Half::Zero) => Half::Zero,
-            _ => Half::Unknown,
+        if (self == Half::One) | (other == Half::One) {
+            Half::One
+        } else if (self == Half::Zero) & (other == Half::Zero) {
+            Half::Zero
+        } else {
+            Half::Unknown
         }
     }
 }
@@ -71,10 +75,12 @@ impl BitXor for Half {
     ghost bitxor_gives = { λ half other result. result ≡ half_xor half other };
 
     fn bitxor(self, other: Half) -> Half {
-        match (self, other) {
-            (Half::Unknown, _) | (_, Half::Unknown) => Half::Unknown,
-            (Half::One, half) => !half,
-            (Half::Zero, half) => half,
+        if (self == Half::Unknown) | (other == Half::Unknown) {
+            Half::Unknown
+        } else if self == other {
+            Half::Zero
+        } else {
+            Half::One
         }
     }
 }

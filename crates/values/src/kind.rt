@@ -1,5 +1,6 @@
 // What a simulator asks of the values that its lines carry.
-ghost use Rattle.std.specs.Prelude.{◌≡◌, Decides};
+ghost use Rattle.std.specs.Prelude.{◌≡◌, ◌≤◌, Decides};
+ghost use Rattle.std.specs.Mem.{type_size};
 ghost use Rattle.values.specs.Kind.{Kind, Lawful};
 ghost use Rattle.values.specs.Pairs.{Pairs, shows, still};
 
@@ -58,4 +59,7 @@ pub trait ValueKind: Copy {
 
     // Each value admits a set of the family, which is never empty.
     ghost admitted: { (x : Self) → family (meaning x) };
+
+    // A value takes few bytes, so that a row of them can be kept aside.
+    ghost small: { type_size Self.row ≤ 64 };
 }

@@ -3,7 +3,7 @@ ghost use Rattle.values.specs.Halves.{of_halves};
 ghost use Rattle.values.specs.Made.{Among};
 ghost use Rattle.values.specs.Nine.{nine, nine_sets};
 ghost use Rattle.values.specs.Laws.{nine_laws};
-ghost use Rattle.std.proofs.Common.{rules};
+ghost use Rattle.std.proofs.Common.{rules, arith};
 
 use crate::half::Half;
 use crate::kind::ValueKind;
@@ -26,6 +26,8 @@ impl ValueKind for Nine {
     ghost lawful = { nine_laws };
 
     ghost admitted = { Prim.search rules };
+
+    ghost small = { omega arith };
 
     fn known(level: bool) -> Nine {
         Nine {

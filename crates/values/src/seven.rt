@@ -43,6 +43,8 @@ impl ValueKind for Seven {
 
     ghost admitted = { first_of (Prim.search rules, Prim.grind (arith, Self.row.coded.inj)) };
 
+    ghost small = { omega arith };
+
     fn known(level: bool) -> Seven {
         Seven::ruled(Nine::known(level))
     }

@@ -2,6 +2,7 @@ pub mod Words
 pub mod Counting
 pub mod Cubes
 pub mod Steps
+pub mod Restoring
 pub mod Finding
 pub mod Holding
 pub mod Inputs

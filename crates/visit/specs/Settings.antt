@@ -7,7 +7,6 @@ use Rattle.simulator.specs.declared.verdict.Verdict.{Verdict}
 use Rattle.simulator.specs.Detection.{verdict}
 use Rattle.visit.specs.declared.branch.Branch.{Branch}
 use Rattle.simulator.specs.Resimulation.{Holds}
-use Rattle.visit.specs.declared.progress.Progress as code
 use Rattle.visit.specs.declared.visiting.Setting.{Setting}
 use Rattle.visit.specs.Visiting.{Progress, met, below}
 
@@ -31,6 +30,6 @@ below_branch K s b p = below_from K s b.next b.cube p
 abbrev pub branch_met : Kind → Setting → Branch → Progress → Progress
 branch_met K s b p = met (verdict_in K s) s.budget (below_from K s b.next) b.cube p
 
--- the row begins with the values of the lines under the cube that was simulated last
-abbrev pub HoldsSimulated : {V : Type 0} → Kind → (V → Pairs) → Setting → code.Progress → List V → Type 0
-HoldsSimulated K meaning s p row = Holds K meaning s.fanout.now.circuit.now s.socket.now.fault p.simulated row
+-- the row begins with the values of the lines under the cube
+abbrev pub HoldsUnder : {V : Type 0} → Kind → (V → Pairs) → Setting → Cube → List V → Type 0
+HoldsUnder K meaning s q row = Holds K meaning s.fanout.now.circuit.now s.socket.now.fault q row

@@ -11,8 +11,6 @@ pub struct Progress {
     // the cube that shows with the fewest driven inputs so far
     pub best: Option<Cube>,
     pub tries: usize,
-    // the cube whose values the row holds
-    pub simulated: Cube,
 }
 
 // Why a visit is given up: a try is due, and the budget allows none.
@@ -20,15 +18,13 @@ pub struct Progress {
 pub struct BudgetSpent;
 
 impl Progress {
-    // Nothing was tried yet; the row holds the values of a cube.
-    pub fn new(simulated: Cube) -> Progress
-        ensures start { going_on result ≡ at_start }
-        ensures simulated { result.simulated ≡ simulated }
+    // Nothing was tried yet.
+    pub fn new() -> Progress
+        ensures { going_on result ≡ at_start }
     {
         Progress {
             best: None,
             tries: 0,
-            simulated,
         }
     }
 

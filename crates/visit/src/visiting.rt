@@ -1,17 +1,17 @@
 // The visit: depth first, inputs in rising order, 0 before 1.
-ghost use Rattle.std.specs.Prelude.{◌≡◌, ◌+◌, ◌≤◌, false, length, if◌then◌else◌};
+ghost use Rattle.std.specs.Prelude.{◌≡◌, ◌+◌, ◌≤◌, false, length, take, if◌then◌else◌};
 ghost use Rattle.faults.specs.Cubes.{nothing_driven};
 ghost use Rattle.simulator.specs.Simulation.{drives_beyond};
 ghost use Rattle.simulator.specs.Callers.{HasRoom, RowKept, SocketEmptied};
 ghost use Rattle.simulator.specs.Resimulation.{Holds};
 ghost use Rattle.visit.specs.Visiting.{drive};
-ghost use Rattle.visit.specs.Settings.{verdict_in, input_count, below_branch, branch_met, HoldsSimulated};
+ghost use Rattle.visit.specs.Settings.{verdict_in, input_count, below_branch, branch_met, HoldsUnder};
 ghost use Rattle.visit.specs.Visits.{going_on, left, Visits};
 
 use crate::answer::Answer;
 use crate::branch::Branch;
 use crate::progress::{BudgetSpent, Progress};
-use circuit::Circuit;
+use circuit::{Circuit, MOST_LINES};
 use faults::{Cube, Fault};
 use refusals::FolderRefusal;
 use simulator::{Fanout, Socket, Verdict, allow_row, resimulate, simulate};
@@ -44,7 +44,7 @@ impl Branch {
 }
 
 // What a visit leaves as it is: the circuit with its fan-out, the socket with the fault, and how many tries it may make. (The row,
-// which each try writes, is no part: it changes with the progress, and the contracts say so of both.)
+// which each try writes, is no part: the contracts say of it alone what it holds.)
 #[derive(Clone, Copy)]
 struct Setting<'a> {
     fanout: &'a Fanout<'a>,
@@ -52,34 +52,52 @@ struct Setting<'a> {
     budget: usize,
 }
 
+// The values of so many lines, kept aside. (In an array, since a visit takes no memory.)
+fn kept<V: ValueKind>(lines: usize, row: &[V]) -> [V; MOST_LINES]
+    requires room { lines ≤ length row.now }
+    requires few { lines ≤ 512 }
+    ensures { take lines result ≡ take lines row.now }
+{
+    let mut values = [V::unknown(); MOST_LINES];
+    values[..lines].copy_from_slice(&row[..lines]);
+    values
+}
+
+// Gives so many lines the values that were kept.
+fn restore<V: ValueKind>(lines: usize, values: &[V; MOST_LINES], row: &mut [V])
+    requires room { lines ≤ length row.old }
+    requires few { lines ≤ 512 }
+    ensures { take lines row.new ≡ take lines values.now }
+{
+    row[..lines].copy_from_slice(&values[..lines]);
+}
+
 impl Setting<'_> {
-    // The verdict on a cube of the circuit's inputs, in a row with room for each line.
-    fn try_cube<V: ValueKind>(&self, cube: Cube, progress: &mut Progress, row: &mut [V]) -> Verdict
+    // The verdict on a cube of the circuit's inputs, in a row that holds the lines under another.
+    fn verdict_on<V: ValueKind>(&self, before: Cube, cube: Cube, row: &mut [V]) -> Verdict
         requires inside { drives_beyond self.now.fanout.now.circuit.now cube ≡ false }
         requires room { HasRoom self.now.fanout.now.circuit.now row.old }
-        requires held { HoldsSimulated V.ValueKind.kind V.ValueKind.meaning self.now progress.old row.old }
+        requires held { HoldsUnder V.ValueKind.kind V.ValueKind.meaning self.now before row.old }
         ensures verdict { result ≡ verdict_in V.ValueKind.kind self.now cube }
-        ensures progress { progress.new ≡ record { best = progress.old.best; tries = progress.old.tries; simulated = cube } }
-        ensures held { HoldsSimulated V.ValueKind.kind V.ValueKind.meaning self.now progress.new row.new }
+        ensures held { HoldsUnder V.ValueKind.kind V.ValueKind.meaning self.now cube row.new }
     {
-        let verdict = resimulate(self.fanout, progress.simulated, cube, self.socket, row).unwrap();
-        progress.simulated = cube;
-        verdict
+        resimulate(self.fanout, before, cube, self.socket, row).unwrap()
     }
 
-    // Meets a cube: tries it, if it drives fewer inputs than the best, and goes on below it, if it is unsure.
+    // Meets a cube: tries it, if it drives fewer inputs than the best, and goes on below it, if it is unsure. The row holds the
+    // lines under the cube `above`.
     #[cycle(go_below_meet)]
     fn meet<V: ValueKind>(
         &self,
+        above: Cube,
         branch: Branch,
         progress: &mut Progress,
         row: &mut [V],
     ) -> Result<(), BudgetSpent>
         requires room { HasRoom self.now.fanout.now.circuit.now row.old }
         requires inside { branch.next ≤ input_count self.now }
-        requires held { HoldsSimulated V.ValueKind.kind V.ValueKind.meaning self.now progress.old row.old }
-        ensures visits { left progress.new result ≡ branch_met V.ValueKind.kind self.now branch (going_on progress.old) }
-        ensures held { HoldsSimulated V.ValueKind.kind V.ValueKind.meaning self.now progress.new row.new }
+        requires held { HoldsUnder V.ValueKind.kind V.ValueKind.meaning self.now above row.old }
+        ensures { left progress.new result ≡ branch_met V.ValueKind.kind self.now branch (going_on progress.old) }
     {
         if !progress.is_beaten_by(branch.cube) {
             return Ok(());
@@ -88,7 +106,7 @@ impl Setting<'_> {
             return Err(BudgetSpent);
         }
         progress.tries += 1;
-        match self.try_cube(branch.cube, progress, row) {
+        match self.verdict_on(above, branch.cube, row) {
             Verdict::Shows => {
                 progress.best = Some(branch.cube);
                 Ok(())
@@ -98,7 +116,7 @@ impl Setting<'_> {
         }
     }
 
-    // Visits all cubes below one, as long as these drive fewer inputs than the best.
+    // Goes below a cube, if some cube there would be tried.
     #[cycle(go_below_meet)]
     fn go_below<V: ValueKind>(
         &self,
@@ -108,17 +126,20 @@ impl Setting<'_> {
     ) -> Result<(), BudgetSpent>
         requires room { HasRoom self.now.fanout.now.circuit.now row.old }
         requires inside { branch.next ≤ input_count self.now }
-        requires held { HoldsSimulated V.ValueKind.kind V.ValueKind.meaning self.now progress.old row.old }
-        ensures visits { left progress.new result ≡ below_branch V.ValueKind.kind self.now branch (going_on progress.old) }
-        ensures held { HoldsSimulated V.ValueKind.kind V.ValueKind.meaning self.now progress.new row.new }
+        requires held { HoldsUnder V.ValueKind.kind V.ValueKind.meaning self.now branch.cube row.old }
+        ensures { left progress.new result ≡ below_branch V.ValueKind.kind self.now branch (going_on progress.old) }
     {
+        let lines = self.fanout.circuit.line_count();
+        let values = kept(lines, row);
         for input in branch.next..self.fanout.circuit.input_count() {
             let low = branch.driving(input, false);
             if !progress.is_beaten_by(low.cube) {
                 return Ok(());
             }
-            self.meet(low, progress, row)?;
-            self.meet(branch.driving(input, true), progress, row)?;
+            self.meet(branch.cube, low, progress, row)?;
+            restore(lines, &values, row);
+            self.meet(branch.cube, branch.driving(input, true), progress, row)?;
+            restore(lines, &values, row);
         }
         Ok(())
     }
@@ -147,8 +168,8 @@ pub fn visit<V: ValueKind>(
         socket: plug.socket(),
         budget,
     };
-    let mut progress = Progress::new(whole.cube);
-    let end = setting.meet(whole, &mut progress, row);
+    let mut progress = Progress::new();
+    let end = setting.meet(whole.cube, whole, &mut progress, row);
     plug.unplug();
     Ok(progress.answer(end))
 }

@@ -24,10 +24,10 @@ loop-input-preserved g c =
             then-changed-input-eq1 w ↦
               let is : v.meaning w.at_pin-value.result ≡ set_of new input =
                 w.at_pin-value.ensures ∙ ap (at_pin v.kind.values c.args.fault input 0) w.input_value.ensures ∙ sym (s.new_driven input inside) in
-              let t = w.turn-waiting.ensures in
-              let next = turned_more v.meaning input w.at_pin-value.result c.args.readers.now c.loop-input.waiting w.turn-waiting.result old new c.loop-input.row w.turn-waiting.new.row same here turned is t in
+              let t = w.turn.ensures in
+              let next = turned_more v.meaning input w.at_pin-value.result c.args.readers.now c.loop-input.waiting w.turn.new.waiting old new c.loop-input.row w.turn.new.row same here turned is t in
               rw (w.row-is, w.waiting-is)
-              (next.0, waits_more c.args.inputs input gates c.args.readers.now c.loop-input.waiting w.turn-waiting.result old new noted t.keeps waits next.1)
+              (next.0, waits_more c.args.inputs input gates c.args.readers.now c.loop-input.waiting w.turn.new.waiting old new noted t.keeps waits next.1)
             | else-changed-input-eq1 w ↦
               let other : (changed_inputs c.args.before c.args.cube / 2 ^ input % 2 ≡ 1) → ⊥ =
                 λ e. w.if-changed-input-eq1.false (ap (λ (n : ℕ). n / 2 ^ input % 2) c.changed_inputs-changed.ensures ∙ e) in

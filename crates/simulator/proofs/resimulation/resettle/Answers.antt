@@ -1,49 +1,96 @@
-use Rattle.std.proofs.Common.{rules, ◌≡◌, ℕ, ◌+◌, ◌<◌, true, [], ◌∷◌, ◌++◌, map, length, ap, refl, sym, subst, ◌∙◌, arith}
+use Rattle.std.proofs.Common.{◌≡◌, ℕ, ◌+◌, ◌-◌, ◌<◌, ◌≤◌, true, length, map, get_or, take, drop, refl, ap, sym, subst, ◌∙◌, arith}
+use Rattle.std.proofs.lemmas.Bool.{ltb-false}
+use Rattle.std.proofs.lemmas.List.{get_or-map, length-map, length-take-le}
+use Rattle.circuit.specs.Model.{Gate}
 use Rattle.circuit.specs.Lawful.{gate_fits}
-use Rattle.std.proofs.lemmas.Grind.{common_steps}
-use Rattle.std.proofs.lemmas.Bool.{and_parts}
 use Rattle.circuit.specs.Tables.{gate_model}
-use Rattle.simulator.proofs.Resimulating.{settling_at, settled_skip, settled_turn}
+use Rattle.simulator.specs.Fanouts.{no_gate}
+use Rattle.simulator.specs.Lines.{gate_value}
+use Rattle.simulator.specs.Resimulation.{Settling}
+use Rattle.simulator.proofs.Resimulating.{gates_from, fit_all, gate_fit, left_turn, left_end}
 use Rattle.simulator.proofs.resimulation.resettle.Goals as goal
 
-pub loop-line-preserved-then-has : goal.loop-line-preserved-then-has
-loop-line-preserved-then-has g c =
+pub lines-init : goal.lines-init
+lines-init g c =
     let v = g.V.ValueKind in
-    let ((at, next), rest) = c.in-Some.ensures.steps in
-    let line = c.in-Some.line in
-    let gate = gate_model c.in-Some.gate.now in
-    let (before, long, e) = c.loop-line.invariant.fit in
-    let parts = and_parts _ _ (rw rest at e) in
-    let inside : line < length c.loop-line.row = omega (arith, c.loop-line.invariant.room, ap length rest, at) in
-    let fits : gate_fits line gate ≡ true = subst (λ (n : ℕ). gate_fits n gate ≡ true) (long ∙ sym at) parts.0 in
+    let gates = map gate_model c.args.gates.now in
+    let none : 0 ≡ c.args.inputs - c.args.inputs = omega arith in
     record {
-      room = search rules;
-      same = search rules;
-      fit = (before ++ (gate ∷ []), grind (arith, common_steps), parts.1);
+      from = omega arith;
+      within = omega (arith, c.requires.room);
+      same = refl;
       settled = λ old new s.
-          settling_at v.kind v.meaning c.args.fault (line + 1) _ _ _ c.args.readers.now c.turn-waiting.result old new c.turn-waiting.new.row next refl
-          (settled_turn v.kind v.meaning c.args.fault line gate _ c.args.readers.now c.loop-line.waiting old new c.loop-line.row inside fits
-          (settling_at v.kind v.meaning c.args.fault _ line _ _ c.args.readers.now c.loop-line.waiting old new c.loop-line.row at (ap (map gate_model) rest) (c.loop-line.invariant.settled old new s))
-          c.gate_value-value.result c.turn-waiting.new.row c.turn-waiting.result c.gate_value-value.ensures c.turn-waiting.ensures);
+          subst (λ (n : ℕ). Settling v.kind v.meaning c.args.fault c.args.inputs (drop n gates) c.args.readers.now c.args.waiting old new c.args.row.now) none s;
     }
 
-pub loop-line-preserved : goal.loop-line-preserved
-loop-line-preserved g c =
+pub gate_value-value-requires : goal.gate_value-value-requires
+gate_value-value-requires g c =
+    let gates = map gate_model c.args.gates.now in
+    let next = c.in-Some.next in
+    let (at, small, lacking) = c.in-Some.ensures in
+    let is = c.in-Some-get.ensures.lookup.1 in
+    let inside : next - c.args.inputs < length c.args.gates.now = c.in-Some-get.ensures.lookup.3.0 in
+    let from = c.lines.invariant.from in
+    let below : next < c.args.inputs + length gates = omega (arith, inside, at, from, length-map c.args.gates.now gate_model) in
+    let gate : gate_model c.in-Some-get.gate.now ≡ get_or gates (next - c.args.inputs) no_gate =
+      ap gate_model is ∙ sym (get_or-map gate_model c.args.gates.now (next - c.args.inputs) c.in-Some-get.gate.now no_gate inside) in
+    let long : length (take next c.lines.row) ≡ next =
+      length-take-le next c.lines.row (omega (arith, below, c.requires.room, c.lines.invariant.same, length-map c.args.gates.now gate_model)) in
+    ap (λ (n : ℕ). gate_fits n (gate_model c.in-Some-get.gate.now)) long
+    ∙ ap (gate_fits next) gate
+    ∙ gate_fit c.args.inputs gates (fit_all c.args.inputs gates c.requires.fit) next (omega (arith, at, from)) below
+
+pub lines-preserved : goal.lines-preserved
+lines-preserved g c =
     let v = g.V.ValueKind in
-    let ((at, next), rest) = c.in-Some.ensures.steps in
-    let line = c.in-Some.line in
-    let gate = gate_model c.in-Some.gate.now in
-    let (before, long, e) = c.loop-line.invariant.fit in
-    let parts = and_parts _ _ (rw rest at e) in
-    let inside : line < length c.loop-line.row = omega (arith, c.loop-line.invariant.room, ap length rest, at) in
-    let fits : gate_fits line gate ≡ true = subst (λ (n : ℕ). gate_fits n gate ≡ true) (long ∙ sym at) parts.0 in
+    let i = c.lines.invariant in
+    let inputs = c.args.inputs in
+    let next = c.in-Some.next in
+    let gates = map gate_model c.args.gates.now in
+    let (at, small, lacking) = c.in-Some.ensures in
+    let is = c.in-Some-get.ensures.lookup.1 in
+    let inside : next - inputs < length c.args.gates.now = c.in-Some-get.ensures.lookup.3.0 in
+    let room : inputs + length gates ≡ length c.lines.row = omega (arith, c.requires.room, i.same, length-map c.args.gates.now gate_model) in
+    let here : next < length c.lines.row = omega (arith, room, inside, at, i.from, length-map c.args.gates.now gate_model) in
+    let gate : gate_model c.in-Some-get.gate.now ≡ get_or gates (next - inputs) no_gate =
+      ap gate_model is ∙ sym (get_or-map gate_model c.args.gates.now (next - inputs) c.in-Some-get.gate.now no_gate inside) in
+    let worked : v.meaning c.gate_value-value.result ≡ gate_value v.kind.values c.args.fault (map v.meaning (take next c.lines.row)) (get_or gates (next - inputs) no_gate) =
+      c.gate_value-value.ensures ∙ ap (gate_value v.kind.values c.args.fault (map v.meaning (take next c.lines.row))) gate in
     record {
-      room = search rules;
-      same = search rules;
-      fit = (before ++ (gate ∷ []), grind (arith, common_steps), parts.1);
+      from = omega (arith, at, i.from);
+      within = omega (arith, here, c.turn.ensures.long);
+      same = c.turn.ensures.long ∙ i.same;
       settled = λ old new s.
-          settling_at v.kind v.meaning c.args.fault (line + 1) _ _ _ c.args.readers.now c.loop-line.waiting old new c.loop-line.row next refl
-          (settled_skip v.kind v.meaning c.args.fault line gate _ c.args.readers.now c.loop-line.waiting old new c.loop-line.row inside fits
-          (settling_at v.kind v.meaning c.args.fault _ line _ _ c.args.readers.now c.loop-line.waiting old new c.loop-line.row at (ap (map gate_model) rest) (c.loop-line.invariant.settled old new s))
-          (sym c.has.ensures ∙ c.if-has.false));
+          left_turn inputs gates (fit_all inputs gates c.requires.fit) v.kind v.meaning c.args.fault c.args.readers.now c.lines.waiting old new c.lines.row
+          room c.lines.line i.from i.within (i.settled old new s) next c.gate_value-value.result c.turn.new.row c.turn.new.waiting at here lacking worked c.turn.ensures;
     }
+
+pub returns-in_default : goal.returns-in_default
+returns-in_default g c =
+    let v = g.V.ValueKind in
+    let i = c.lines.invariant in
+    let inputs = c.args.inputs in
+    let gates = map gate_model c.args.gates.now in
+    let room : inputs + length gates ≡ length c.lines.row = omega (arith, c.requires.room, i.same, length-map c.args.gates.now gate_model) in
+    (
+      i.same,
+      λ old new s.
+        left_end inputs gates (fit_all inputs gates c.requires.fit) v.kind v.meaning c.args.fault c.args.readers.now c.lines.waiting old new c.lines.row
+        room c.lines.line i.from i.within (i.settled old new s) (λ k at below. c.in_default.ensures k at (omega (arith, below, i.same, c.requires.few))),
+    )
+
+pub returns-in_default-get : goal.returns-in_default-get
+returns-in_default-get g c =
+    let v = g.V.ValueKind in
+    let i = c.lines.invariant in
+    let inputs = c.args.inputs in
+    let gates = map gate_model c.args.gates.now in
+    let room : inputs + length gates ≡ length c.lines.row = omega (arith, c.requires.room, i.same, length-map c.args.gates.now gate_model) in
+    let (at, small, lacking) = c.in-Some.ensures in
+    let past : length c.args.gates.now ≤ c.in-Some.next - inputs = ltb-false _ _ (sym c.in_default-get.ensures.lookup.0) in
+    (
+      i.same,
+      λ old new s.
+        left_end inputs gates (fit_all inputs gates c.requires.fit) v.kind v.meaning c.args.fault c.args.readers.now c.lines.waiting old new c.lines.row
+        room c.lines.line i.from i.within (i.settled old new s) (λ k from below. lacking k from (omega (arith, below, past, room, at, i.from, length-map c.args.gates.now gate_model))),
+    )

@@ -12,4 +12,4 @@ returns-clause-visits g c =
     visits v.kind v.family g.met.V.ValueKind.lawful model c.args.fault c.args.budget places c.answer.result c.in_ok-allow_row.ensures
     (visit_is v.kind v.family g.met.V.ValueKind.lawful model c.args.fault c.args.budget places
     c.new.result.circuit.now c.socket-2.result.now.fault c.whole-whole.result.cube c.whole-whole.result.next (going_on c.new-progress.result) (left c.meet-end.new.progress c.meet-end.result) c.answer.result
-    c.new.ensures (ap (λ (s : Socket). s.fault) c.socket-2.ensures ∙ c.plug-plug.ensures.holds) c.whole-whole.ensures.cube c.whole-whole.ensures.next c.new-progress.ensures.start c.meet-end.ensures.visits c.answer.ensures)
+    c.new.ensures (ap (λ (s : Socket). s.fault) c.socket-2.ensures ∙ c.plug-plug.ensures.holds) c.whole-whole.ensures.cube c.whole-whole.ensures.next c.new-progress.ensures c.meet-end.ensures c.answer.ensures)

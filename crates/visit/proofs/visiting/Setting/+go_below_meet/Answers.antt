@@ -4,10 +4,11 @@ use Rattle.std.proofs.lemmas.Result.{err_from_is_err_and}
 use Rattle.visit.specs.Visits.{going_on}
 use Rattle.visit.specs.Settings.{input_count}
 use Rattle.visit.proofs.Steps.{given_up, turned, given_up_first, given_up_second, below_passed_over}
+use Rattle.visit.proofs.Restoring.{restored}
 use Rattle.visit.proofs.visiting.Setting.+go_below_meet.Goals as goal
 
-pub go_below-returns-then-not-is_beaten_by-clause-visits : goal.go_below-returns-then-not-is_beaten_by-clause-visits
-go_below-returns-then-not-is_beaten_by-clause-visits g t c =
+pub go_below-returns-then-not-is_beaten_by : goal.go_below-returns-then-not-is_beaten_by
+go_below-returns-then-not-is_beaten_by g t c =
     let branch = c.args.branch in
     let input = c.loop-input.input in
     let lower : branch.cube.driven < 2 ^ input = omega (arith, branch.lower, pow_mono {i = branch.next} {j = input} c.loop-input.auto.input) in
@@ -17,29 +18,26 @@ go_below-returns-then-not-is_beaten_by-clause-visits g t c =
     )
     ∙ c.loop-input.invariant.left
 
-pub go_below-returns-then-not-is_beaten_by-clause-held : goal.go_below-returns-then-not-is_beaten_by-clause-held
-go_below-returns-then-not-is_beaten_by-clause-held g t c = c.loop-input.invariant.held
-
 pub go_below-meet-requires : goal.go_below-meet-requires
 go_below-meet-requires g t c = λ lifetimes outlives. (search rules, (search rules, (search rules, (search rules, c.loop-input.invariant.held))))
 
-pub go_below-returns-in_err-meet-clause-visits : goal.go_below-returns-in_err-meet-clause-visits
-go_below-returns-in_err-meet-clause-visits g t c =
+pub go_below-returns-in_err-meet : goal.go_below-returns-in_err-meet
+go_below-returns-in_err-meet g t c =
     let p = err_from_is_err_and c.from_residual.result c.from_residual.ensures.1 in
     rw p.1
     (given_up_first g.V.ValueKind.kind c.args.self.now c.args.branch.cube c.loop-input.input (omega (arith, c.input_count-input-end.ensures.value))
-    (going_on c.loop-input.progress) (given_up c.meet.new.progress) (c.driving-low.result, c.driving-low.ensures.cube, c.driving-low.ensures.next, c.in_err-meet.ensures.visits) refl
+    (going_on c.loop-input.progress) (given_up c.meet.new.progress) (c.driving-low.result, c.driving-low.ensures.cube, c.driving-low.ensures.next, c.in_err-meet.ensures) refl
     ∙ c.loop-input.invariant.left)
 
-pub go_below-returns-in_err-meet-2-clause-visits : goal.go_below-returns-in_err-meet-2-clause-visits
-go_below-returns-in_err-meet-2-clause-visits g t c =
+pub go_below-returns-in_err-meet-2 : goal.go_below-returns-in_err-meet-2
+go_below-returns-in_err-meet-2 g t c =
     let low = c.driving-low in
     let high = c.driving in
     let p = err_from_is_err_and c.from_residual-in_err-meet-2.result c.from_residual-in_err-meet-2.ensures.1 in
     rw p.1
     (given_up_second g.V.ValueKind.kind c.args.self.now c.args.branch.cube c.loop-input.input (omega (arith, c.input_count-input-end.ensures.value))
-    (going_on c.loop-input.progress) (going_on c.meet.new.progress) (low.result, low.ensures.cube, low.ensures.next, c.in_ok-meet.ensures.visits)
-    (given_up c.meet-in-loop-input.new.progress) (high.result, high.ensures.cube, high.ensures.next, c.in_err-meet-2.ensures.visits) refl
+    (going_on c.loop-input.progress) (going_on c.meet.new.progress) (low.result, low.ensures.cube, low.ensures.next, c.in_ok-meet.ensures)
+    (given_up c.meet-in-loop-input.new.progress) (high.result, high.ensures.cube, high.ensures.next, c.in_err-meet-2.ensures) refl
     ∙ c.loop-input.invariant.left)
 
 pub go_below-loop-input-preserved : goal.go_below-loop-input-preserved
@@ -49,13 +47,30 @@ go_below-loop-input-preserved g t c =
     record {
       left =
           turned g.V.ValueKind.kind c.args.self.now c.args.branch.cube c.loop-input.input (omega (arith, c.input_count-input-end.ensures.value))
-          (going_on c.loop-input.progress) (going_on c.meet.new.progress) (low.result, low.ensures.cube, low.ensures.next, c.in_ok-meet.ensures.visits)
-          (going_on c.meet-in-loop-input.new.progress) (high.result, high.ensures.cube, high.ensures.next, c.in_ok-meet-2.ensures.visits)
+          (going_on c.loop-input.progress) (going_on c.meet.new.progress) (low.result, low.ensures.cube, low.ensures.next, c.in_ok-meet.ensures)
+          (going_on c.meet-in-loop-input.new.progress) (high.result, high.ensures.cube, high.ensures.next, c.in_ok-meet-2.ensures)
           ∙ c.loop-input.invariant.left;
-      held = c.in_ok-meet-2.ensures.held;
+      held =
+          restored g.V.ValueKind.meaning _ _ c.line_count-lines.result c.args.row.now c.kept-values.result c.restore-in-loop-input.new.row
+          c.line_count-lines.ensures c.restore-in-loop-input.ensures c.kept-values.ensures c.requires.held;
     }
 
-pub meet-try_cube-requires-clause-inside : goal.meet-try_cube-requires-clause-inside
-meet-try_cube-requires-clause-inside g t c =
+pub meet-verdict_on-requires-clause-inside : goal.meet-verdict_on-requires-clause-inside
+meet-verdict_on-requires-clause-inside g t c =
     let inputs = input_count c.args.self.now in
     lt-leb (2 ^ inputs) c.args.branch.cube.driven (omega (arith, pow_mono {i = c.args.branch.next} {j = inputs} c.requires.inside, c.args.branch.lower))
+
+pub go_below-kept-values-requires : goal.go_below-kept-values-requires
+go_below-kept-values-requires g t c = (
+  omega (arith, g.met.V.ValueKind.small),
+  (omega (arith, c.line_count-lines.ensures, c.requires.room), omega (arith, c.line_count-lines.ensures, c.args.self.now.fanout.now.few)),
+)
+
+pub go_below-restore-requires : goal.go_below-restore-requires
+go_below-restore-requires g t c = (
+  omega (arith, g.met.V.ValueKind.small),
+  (
+    omega (arith, c.line_count-lines.ensures, c.requires.room, c.meet.auto.row, c.loop-input.auto.row),
+    omega (arith, c.line_count-lines.ensures, c.args.self.now.fanout.now.few),
+  ),
+)

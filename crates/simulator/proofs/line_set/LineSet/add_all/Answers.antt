@@ -2,11 +2,11 @@ use Rattle.std.proofs.Common.{ℕ, ◌/◌, ◌<◌, length, ap, ◌∙◌, get_
 use Rattle.std.proofs.lemmas.Grind.{common_steps}
 use Rattle.std.proofs.lemmas.Bool.{cases_eq}
 use Rattle.simulator.proofs.LineSets.{raised_keeps, raised_adds}
-use Rattle.simulator.proofs.line_set.LineSet.and.Goals as goal
+use Rattle.simulator.proofs.line_set.LineSet.add_all.Goals as goal
 
 pub loop-index-preserved : goal.loop-index-preserved
 loop-index-preserved c =
-    let words = c.loop-index.words in
+    let words = c.loop-index.self.words in
     let index = c.loop-index.index in
     let more = get_or c.args.other.now.words index 0 in
     let inside : index < length words = omega (arith, c.loop-index.invariant.long) in
