@@ -1,5 +1,5 @@
 -- Sets of lines, by the bits of their words.
-use Rattle.std.proofs.Common.{◌≡◌, ℕ, ◌+◌, ◌-◌, ◌*◌, ◌/◌, ◌%◌, ◌^◌, ◌<◌, ◌≤◌, Bool, true, false, eqb, Some, None, List, length, get_or, set, max, ◌⊎◌, sym, ap, ◌∙◌, inl, inr, arith}
+use Rattle.std.proofs.Common.{◌≡◌, ℕ, ◌+◌, ◌-◌, ◌*◌, ◌/◌, ◌%◌, ◌^◌, ◌<◌, ◌≤◌, Bool, true, false, eqb, Some, None, List, length, get_or, set, ◌⊎◌, sym, ap, ◌∙◌, inl, inr, arith}
 use lib.Bits.{bit_or}
 use Rattle.std.proofs.lemmas.Nat.Bits.{bit_at_or, bit_at_above, bit_at-zero, bit_at-lt}
 use Rattle.std.proofs.lemmas.Bool.{cases_eq, cases_lt, eqb-true, eq-eqb}
@@ -56,13 +56,13 @@ pub rest_some : (word from place : ℕ) → word < 2 ^ 64
     → (place < 64) × (word / 2 ^ from / 2 ^ place % 2 ≡ 1) × ((i : ℕ) → i < place → word / 2 ^ from / 2 ^ i % 2 ≡ 0) → LowestFrom word from (Some (from + place))
 rest_some word from place fits (small, one, zeros) = (
   elim (cases_lt (from + place) 64) [
-    inl h ↦ h
+    | inl h ↦ h
     | inr h ↦ absurd (let clash = sym (bit_at_above word 64 (from + place) fits h) ∙ sym (passed word from place) ∙ one in cc)
   ],
   omega arith,
   λ i above below.
-    let at : from + (i - from) ≡ i = omega (arith, above) in
-    ap (λ (n : ℕ). word / 2 ^ n % 2) (sym at) ∙ sym (passed word from (i - from)) ∙ zeros (i - from) (omega (arith, above, below)),
+      let at : from + (i - from) ≡ i = omega (arith, above) in
+      ap (λ (n : ℕ). word / 2 ^ n % 2) (sym at) ∙ sym (passed word from (i - from)) ∙ zeros (i - from) (omega (arith, above, below)),
 )
 
 -- a line whose bit is 0 is not in the set
@@ -74,7 +74,7 @@ module _ (s : LineSet) (line index from : ℕ) (before : (k : ℕ) → line ≤ 
   -- nor is one in this word
   pub none_there : LowestFrom (get_or s.words index 0) from None → (k : ℕ) → line ≤ k → k < 64 * (index + 1) → has s k ≡ false
   none_there zeros k at below = elim (cases_lt k (64 * index + from)) [
-    inl h ↦ before k at h
+    | inl h ↦ before k at h
     | inr h ↦ absent s index k (omega (arith, h, below)) (zeros (k % 64) (omega (arith, h, below)) (omega arith))
   ]
 
@@ -84,7 +84,7 @@ module _ (s : LineSet) (line index from : ℕ) (before : (k : ℕ) → line ≤ 
     omega (arith, at, above),
     omega (arith, low, small),
     λ k after below. elim (cases_lt k (64 * index + from)) [
-      inl h ↦ before k after h
+      | inl h ↦ before k after h
       | inr h ↦ absent s index k (omega (arith, h, below, small)) (zeros (k % 64) (omega (arith, h, below, small)) (omega (arith, h, below, small)))
     ],
   )

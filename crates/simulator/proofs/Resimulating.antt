@@ -1,7 +1,6 @@
 -- Working out again what a change of the cube can have changed.
 use Rattle.std.proofs.Common.{◌≡◌, ℕ, zero, suc, ◌+◌, ◌-◌, ◌<◌, ◌≤◌, ◌/◌, ◌%◌, ◌^◌, max, Bool, true, false, cond, eqb, ltb, List, [], ◌∷◌, ◌++◌, map, length, take, drop, get_or, set, Option, All, ◌⊎◌, sym, refl, subst, ap, ◌∙◌, inl, inr, arith}
 use Rattle.std.proofs.lemmas.Bool.{cases_eq, and_parts, ltb-true}
-use lib.Bits.{bit_or}
 use Rattle.std.specs.Int.Bits.{bit_xor}
 use Rattle.std.proofs.lemmas.Nat.Bits.{bit_at_or, bit_at_xor, bit_at-lt}
 use Rattle.std.proofs.Math.ListN.{get_or-append}
@@ -43,12 +42,13 @@ waits_more first bound gates readers waiting more old new complete inc waits tur
   where
     operand : ℕ
     operand = get_or (operands_at gates k) i d
+
     at : (operand ≡ bound) ⊎ (operand ≡ bound → ⊥) → (set_of old bound ≡ set_of new bound) ⊎ Includes more (get_or readers bound none_reads)
         → set_of old operand ≡ set_of new operand
     at (inl same) (inl alike) = ap (set_of old) same ∙ alike ∙ ap (set_of new) (sym same)
     at (inl same) (inr wait) =
         let noted : has (get_or readers bound none_reads) (first + k) ≡ true =
-          ap (λ (o : ℕ). has (get_or readers o none_reads) (first + k)) (sym same) ∙ complete k h i d inside in
+        ap (λ (o : ℕ). has (get_or readers o none_reads) (first + k)) (sym same) ∙ complete k h i d inside in
         absurd (let clash = sym (wait (first + k) noted) ∙ lacking in cc)
     at (inr other) t = waits k h (lacks more waiting (first + k) inc lacking) i d inside (omega (arith, other, below))
 
@@ -101,7 +101,7 @@ pub turned_more : {V : Type 0} (meaning : V → Pairs) (line : ℕ) (value : V) 
 turned_more meaning line value readers waiting more old new row after same here turned is t = (
   t.sets ∙ ap (λ (vs : List Pairs). set vs line (meaning value)) turned ∙ ap (set (take line new ++ drop line old) line) is ∙ seam_moves line old new same here,
   elim t.waits [
-    inl same_set ↦ inl (sym (seam_reads line old new same here) ∙ ap (λ (vs : List Pairs). set_of vs line) (sym turned) ∙ sym same_set ∙ is)
+    | inl same_set ↦ inl (sym (seam_reads line old new same here) ∙ ap (λ (vs : List Pairs). set_of vs line) (sym turned) ∙ sym same_set ∙ is)
     | inr wait ↦ inr wait
   ],
 )
@@ -187,19 +187,19 @@ module _ {V : Type 0} (K : Kind) (meaning : V → Pairs) (f : Option Fault) (lin
   settled_skip lacking =
       let known : Pairs = K.values.gates.known false in
       let alike : All (λ (o : ℕ). get_or (take line old) o known ≡ get_or (take line new) o known) g.operands = λ i d l.
-        let o : ℕ = get_or g.operands i d in
-        let low : o < line = operands_below line g fits i d l in
-        get_or-take line old o known low
-        ∙ get_or_default old o known (only false false) (omega (arith, low, here, same))
-        ∙ s.waits 0 (omega arith) (ap (has waiting) (omega arith) ∙ lacking) i d l low
-        ∙ get_or_default new o (only false false) known (omega (arith, low, here))
-        ∙ sym (get_or-take line new o known low) in
+      let o : ℕ = get_or g.operands i d in
+      let low : o < line = operands_below line g fits i d l in
+      get_or-take line old o known low
+      ∙ get_or_default old o known (only false false) (omega (arith, low, here, same))
+      ∙ s.waits 0 (omega arith) (ap (has waiting) (omega arith) ∙ lacking) i d l low
+      ∙ get_or_default new o (only false false) known (omega (arith, low, here))
+      ∙ sym (get_or-take line new o known low) in
       let long : length (take line old) ≡ length (take line new) =
-        length-take-le line old (omega (arith, here, same)) ∙ sym (length-take-le line new (omega (arith, here))) in
+      length-take-le line old (omega (arith, here, same)) ∙ sym (length-take-le line new (omega (arith, here))) in
       let kept : set_of old line ≡ set_of new line =
-        next_line K.values f line old g gates (only false false) (omega (arith, here, same)) s.old_gates
-        ∙ gate_same K.values f (take line old) (take line new) g long alike
-        ∙ sym new_line in
+      next_line K.values f line old g gates (only false false) (omega (arith, here, same)) s.old_gates
+      ∙ gate_same K.values f (take line old) (take line new) g long alike
+      ∙ sym new_line in
       record {
         old_long = s.old_long;
         new_long = s.new_long;
@@ -215,10 +215,10 @@ module _ {V : Type 0} (K : Kind) (meaning : V → Pairs) (f : Option Fault) (lin
       → Turns meaning line value (get_or readers line none_reads) waiting row after more → Settling K meaning f (line + 1) gates readers more old new after
   settled_turn value after more worked t =
       let front : map meaning (take line row) ≡ take line new =
-        sym (take-map meaning line row)
-        ∙ ap (take line) s.turned
-        ∙ ap (λ (n : ℕ). take n (take line new ++ drop line old)) (sym (length-take-le line new (omega (arith, here))))
-        ∙ take-append_seam (take line new) (drop line old) in
+      sym (take-map meaning line row)
+      ∙ ap (take line) s.turned
+      ∙ ap (λ (n : ℕ). take n (take line new ++ drop line old)) (sym (length-take-le line new (omega (arith, here))))
+      ∙ take-append_seam (take line new) (drop line old) in
       let is : meaning value ≡ set_of new line = worked ∙ ap (λ (vs : List Pairs). gate_value K.values f vs g) front ∙ sym new_line in
       let (turned, turn) = turned_more meaning line value readers waiting more old new row after same here s.turned is t in
       record {
@@ -275,7 +275,7 @@ module _ {V : Type 0} (K : Kind) (meaning : V → Pairs) (f : Option Fault) (rea
       → Settling K meaning f line gates readers waiting old new row → map meaning row ≡ new
   settled_end line gates room fit lacking s =
       let all : Settling K meaning f (line + length gates) (drop (length gates) gates) readers waiting old new row =
-        settled_skips (length gates) line gates (omega arith) room fit (λ k at below. lacking k at (omega (arith, below, room))) s in
+      settled_skips (length gates) line gates (omega arith) room fit (λ k at below. lacking k at (omega (arith, below, room))) s in
       all.turned ∙ grind (arith, common_steps, room, s.old_long, s.new_long)
 
 -- The gates that are left of all, the first of which has that line.
@@ -305,7 +305,7 @@ module _ (inputs : ℕ) (all : List Gate) (fit : FitFrom inputs all) where
         let n : ℕ = next - line in
         let here : line + n ≡ next = omega (arith, at) in
         let gates : drop n (gates_from inputs line all) ≡ gates_from inputs next all =
-          drop-drop n (line - inputs) all ∙ ap (λ (m : ℕ). drop m all) (omega (arith, from, at)) in
+        drop-drop n (line - inputs) all ∙ ap (λ (m : ℕ). drop m all) (omega (arith, from, at)) in
         subst (λ (gs : List Gate). Settling K meaning f next gs readers waiting old new row) gates
         (subst (λ (m : ℕ). Settling K meaning f m (drop n (gates_from inputs line all)) readers waiting old new row) here
         (settled_skips K meaning f readers waiting old new row n line (gates_from inputs line all)
@@ -321,7 +321,7 @@ module _ (inputs : ℕ) (all : List Gate) (fit : FitFrom inputs all) where
         let g : Gate = slice_index_or all (next - inputs) no_gate in
         let gates : List Gate = gates_from inputs (next + 1) all in
         let first : gates_from inputs next all ≡ g ∷ gates =
-          drop_more all (next - inputs) no_gate (omega (arith, from, at, small, room)) ∙ ap (λ (m : ℕ). g ∷ drop m all) (omega (arith, from, at)) in
+        drop_more all (next - inputs) no_gate (omega (arith, from, at, small, room)) ∙ ap (λ (m : ℕ). g ∷ drop m all) (omega (arith, from, at)) in
         settled_turn K meaning f next g gates readers waiting old new row small (gate_fit next (omega (arith, from, at)) (omega (arith, small, room)))
         (subst (λ (gs : List Gate). Settling K meaning f next gs readers waiting old new row) first (left_until next at (omega (arith, small)) lacking))
         value after more worked t
@@ -375,7 +375,7 @@ module _ (q t : Cube) (i : ℕ) (alike : (changed_inputs q t / 2 ^ i % 2 ≡ 1) 
   bits : max ((q.driven / 2 ^ i % 2 + t.driven / 2 ^ i % 2) % 2) ((q.level / 2 ^ i % 2 + t.level / 2 ^ i % 2) % 2) ≡ 0
   bits =
       let joined : changed_inputs q t / 2 ^ i % 2 ≡ max (bit_xor q.driven t.driven / 2 ^ i % 2) (bit_xor q.level t.level / 2 ^ i % 2) =
-        bit_at_or (bit_xor q.driven t.driven) (bit_xor q.level t.level) i in
+      bit_at_or (bit_xor q.driven t.driven) (bit_xor q.level t.level) i in
       let none : changed_inputs q t / 2 ^ i % 2 ≡ 0 = omega (arith, alike, bit_at-lt (changed_inputs q t) i) in
       sym (ap (λ (n : ℕ). max n ((q.level / 2 ^ i % 2 + t.level / 2 ^ i % 2) % 2)) (bit_at_xor q.driven t.driven i))
       ∙ sym (ap (max (bit_xor q.driven t.driven / 2 ^ i % 2)) (bit_at_xor q.level t.level i))
@@ -400,11 +400,11 @@ resimulated K meaning c f q t readers waiting before driven after inputs gates i
     let n : ℕ = length c.inputs in
     let redriving : Redrives K meaning q t f n readers before driven waiting = subst (λ (k : ℕ). Redrives K meaning q t f k readers before driven waiting) inputs_is redrives in
     let settling : Resettles K meaning f n c.gates readers waiting driven after =
-      subst (λ (gs : List Gate). Resettles K meaning f n gs readers waiting driven after) gates_is
-      (subst (λ (k : ℕ). Resettles K meaning f k gates readers waiting driven after) inputs_is resettles) in
+    subst (λ (gs : List Gate). Resettles K meaning f n gs readers waiting driven after) gates_is
+    (subst (λ (k : ℕ). Resettles K meaning f k gates readers waiting driven after) inputs_is resettles) in
     let old_long : length old ≡ length before = sym (ap length held) ∙ length-map before meaning in
     let new_long : length new ≡ length before =
-      lines_long K.values f (input_value K t) c ∙ sym (lines_long K.values f (input_value K q) c) ∙ old_long in
+    lines_long K.values f (input_value K t) c ∙ sym (lines_long K.values f (input_value K q) c) ∙ old_long in
     let (turned, waits) = redriving.1 c.gates old new noted (record {
       old_long = old_long;
       new_long = new_long;

@@ -1,5 +1,5 @@
 -- Working out again what a change of the cube can have changed.
-use Rattle.std.specs.Prelude.{◌≡◌, ℕ, ◌+◌, ◌<◌, true, false, List, ◌++◌, map, length, take, drop, Option, slice_set, bit_or, All, ◌⊎◌}
+use Rattle.std.specs.Prelude.{◌≡◌, ℕ, ◌+◌, ◌<◌, false, List, ◌++◌, map, length, take, drop, Option, slice_set, bit_or, All, ◌⊎◌}
 use Rattle.std.specs.Int.Bits.{bit_xor}
 use Rattle.values.specs.Pairs.{Pairs}
 use Rattle.values.specs.Kind.{Kind}
@@ -51,7 +51,7 @@ abbrev pub Redrives : {V : Type 0} → Kind → (V → Pairs) → Cube → Cube 
 Redrives K meaning q t f inputs readers before after waiting =
     (length after ≡ length before)
     × ((gates : List Gate) (old new : List Pairs) → Complete inputs gates readers → Redriven K meaning q t f inputs old new before
-        → Turned meaning old new inputs after × Waits inputs inputs gates waiting old new)
+    → Turned meaning old new inputs after × Waits inputs inputs gates waiting old new)
 
 -- The row is settled up to that line, from which on these gates are left.
 pub record Settling {V : Type 0} (K : Kind) (meaning : V → Pairs) (f : Option Fault) (line : ℕ) (gates : List Gate) (readers : List LineSet) (waiting : LineSet) (old new : List Pairs) (row : List V)

@@ -1,8 +1,8 @@
 // Simulation of a circuit under a cube, with the fault that is plugged into a socket.
 #![tactic(auto)]
 
-mod gates;
 pub mod fanout;
+mod gates;
 mod line_set;
 pub mod resimulation;
 pub mod simulation;

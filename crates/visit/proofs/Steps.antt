@@ -113,6 +113,12 @@ module _ (K : Kind) (s : Setting) (q : Cube) (i : ℕ) (h : i < input_count s) w
   below_passed_over p low lower is beaten =
       below_beaten judge s.budget inputs (inputs - i) q p
       (λ j level above.
-        alike_beaten q j i level 0 p.best (omega (arith, lower, pow_mono {i = i} {j = j} (omega (arith, above)))) lower
-        ∙ ap (λ (x : Cube). fewer x p.best) (sym is)
-        ∙ beaten)
+      alike_beaten q j i level 0 p.best (omega (arith, lower, pow_mono {i = i} {j = j} (omega (arith, above)))) lower
+      ∙ ap (λ (x : Cube). fewer x p.best) (sym is)
+      ∙ beaten)
+
+-- where no input is left, nothing is below
+pub below_nothing : (K : Kind) (s : Setting) (i : ℕ) (q : Cube) (p : Progress) → input_count s ≤ i → below_from K s i q p ≡ p
+below_nothing K s i q p h =
+    let none : input_count s - i ≡ 0 = omega (arith, h) in
+    ap (λ (n : ℕ). below (verdict_in K s) s.budget (input_count s) n q p) none

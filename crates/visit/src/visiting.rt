@@ -1,5 +1,6 @@
 // The visit: depth first, inputs in rising order, 0 before 1.
 ghost use Rattle.std.specs.Prelude.{◌≡◌, ◌+◌, ◌≤◌, false, length, take, if◌then◌else◌};
+ghost use Rattle.values.specs.Kind.{Kind};
 ghost use Rattle.faults.specs.Cubes.{nothing_driven};
 ghost use Rattle.simulator.specs.Simulation.{drives_beyond};
 ghost use Rattle.simulator.specs.Callers.{HasRoom, RowKept, SocketEmptied};
@@ -116,7 +117,17 @@ impl Setting<'_> {
         }
     }
 
-    // Goes below a cube, if some cube there would be tried.
+    // Whether a cube below one would drive fewer inputs than the best: if not, nothing below it is met.
+    fn leads_on(&self, branch: &Branch, progress: &Progress) -> bool
+        requires inside { branch.now.next ≤ input_count self.now }
+        ensures { (K : Kind) → result ≡ false → below_branch K self.now branch.now (going_on progress.now) ≡ going_on progress.now }
+    {
+        branch.next < self.fanout.circuit.input_count()
+            && progress.is_beaten_by(branch.driving(branch.next, false).cube)
+    }
+
+    // Visits all cubes below one, as long as these drive fewer inputs than the best. The row holds the lines under it, and gets their
+    // values back before each of these cubes.
     #[cycle(go_below_meet)]
     fn go_below<V: ValueKind>(
         &self,
@@ -129,6 +140,9 @@ impl Setting<'_> {
         requires held { HoldsUnder V.ValueKind.kind V.ValueKind.meaning self.now branch.cube row.old }
         ensures { left progress.new result ≡ below_branch V.ValueKind.kind self.now branch (going_on progress.old) }
     {
+        if !self.leads_on(&branch, progress) {
+            return Ok(());
+        }
         let lines = self.fanout.circuit.line_count();
         let values = kept(lines, row);
         for input in branch.next..self.fanout.circuit.input_count() {

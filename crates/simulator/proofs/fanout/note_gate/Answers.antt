@@ -1,7 +1,4 @@
-use Rattle.std.proofs.Common.{◌≡◌, ℕ, ◌+◌, ◌<◌, true, length, get_or, set, take, ◌⊎◌, inl, inr, arith}
-use Rattle.std.proofs.lemmas.Bool.{cases_lt}
-use Rattle.simulator.specs.LineSets.{has}
-use Rattle.simulator.specs.Fanouts.{none_reads, Noted}
+use Rattle.std.proofs.Common.{◌<◌, length, get_or, set, take, arith}
 use Rattle.simulator.proofs.Fanouts.{keeps_trans, noted_keeps, noted_more, grown_keeps, grown_noted}
 use Rattle.simulator.proofs.fanout.note_gate.Goals as goal
 

@@ -10,9 +10,9 @@ returns-else-not-equals g c =
     let row = c.args.row.now in
     let line = c.args.line in
     let is : m c.args.value ≡ set_of (map m row) line =
-      ap m (c.equals.ensures.0 c.if-not-equals.false)
-      ∙ ap m c.index-row-line.is
-      ∙ sym (get_or-map m row line c.index-row-line.result (only false false) c.requires) in
+    ap m (c.equals.ensures.0 c.if-not-equals.false)
+    ∙ ap m c.index-row-line.is
+    ∙ sym (get_or-map m row line c.index-row-line.result (only false false) c.requires) in
     record {
       long = refl;
       sets = sym (ap (λ (x : Pairs). set (map m row) line x) is ∙ set-get_or (map m row) line (only false false));

@@ -74,3 +74,6 @@ go_below-restore-requires g t c = (
     omega (arith, c.line_count-lines.ensures, c.args.self.now.fanout.now.few),
   ),
 )
+
+pub go_below-returns-then-not-leads_on : goal.go_below-returns-then-not-leads_on
+go_below-returns-then-not-leads_on g t c = sym (c.leads_on.ensures g.V.ValueKind.kind c.if-not-leads_on.true)
