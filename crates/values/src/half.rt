@@ -1,4 +1,4 @@
-// What is known of one level. (The tables say what three-valued logic is. `min` and `max` of an order in which what is unknown stands
+// What is known of one level. (`min` and `max` of an order in which what is unknown stands
 // between 0 and 1 would give two of the four, and need a word on that order. An enum of its own and no `Option<bool>`: the operators
 // need a type of this crate, and `None` would not say that both levels are possible.)
 ghost use Rattle.std.specs.Prelude.{◌≡◌};
@@ -13,6 +13,26 @@ pub enum Half {
     // The level can be 0 or 1, written x.
     Unknown,
 }
+
+// Three-valued logic, a row for the left operand and a column for the right one, each in the order 0, 1, x. (By a table no branch
+// hangs on the operands: a simulation meets them in no order that a processor could guess.)
+const HALF_AND: [[Half; 3]; 3] = [
+    [Half::Zero, Half::Zero, Half::Zero],
+    [Half::Zero, Half::One, Half::Unknown],
+    [Half::Zero, Half::Unknown, Half::Unknown],
+];
+
+const HALF_OR: [[Half; 3]; 3] = [
+    [Half::Zero, Half::One, Half::Unknown],
+    [Half::One, Half::One, Half::One],
+    [Half::Unknown, Half::One, Half::Unknown],
+];
+
+const HALF_XOR: [[Half; 3]; 3] = [
+    [Half::Zero, Half::One, Half::Unknown],
+    [Half::One, Half::Zero, Half::Unknown],
+    [Half::Unknown, Half::Unknown, Half::Unknown],
+];
 
 // The half of a known level.
 impl From<bool> for Half {
@@ -43,13 +63,7 @@ impl BitAnd for Half {
     ghost bitand_gives = { λ half other result. result ≡ half_and half other };
 
     fn bitand(self, other: Half) -> Half {
-        if (self == Half::Zero) | (other == Half::Zero) {
-            Half::Zero
-        } else if (self == Half::One) & (other == Half::One) {
-            Half::One
-        } else {
-            Half::Unknown
-        }
+        HALF_AND[self as usize][other as usize]
     }
 }
 
@@ -59,13 +73,7 @@ impl BitOr for Half {
     ghost bitor_gives = { λ half other result. result ≡ half_or half other };
 
     fn bitor(self, other: Half) -> Half {
-        if (self == Half::One) | (other == Half::One) {
-            Half::One
-        } else if (self == Half::Zero) & (other == Half::Zero) {
-            Half::Zero
-        } else {
-            Half::Unknown
-        }
+        HALF_OR[self as usize][other as usize]
     }
 }
 
@@ -75,12 +83,6 @@ impl BitXor for Half {
     ghost bitxor_gives = { λ half other result. result ≡ half_xor half other };
 
     fn bitxor(self, other: Half) -> Half {
-        if (self == Half::Unknown) | (other == Half::Unknown) {
-            Half::Unknown
-        } else if self == other {
-            Half::Zero
-        } else {
-            Half::One
-        }
+        HALF_XOR[self as usize][other as usize]
     }
 }
