@@ -17,7 +17,7 @@ use refusals::FolderRefusal;
 use values::kind::ValueKind;
 
 // What a cube gives an input.
-pub fn input_value<V: ValueKind>(cube: Cube, input: usize) -> V
+pub(crate) fn input_value<V: ValueKind>(cube: Cube, input: usize) -> V
     ensures { V.ValueKind.meaning result ≡ input_value V.ValueKind.kind cube input }
 {
     cube.level_at(input)
@@ -69,7 +69,7 @@ fn all_still<V: ValueKind>(outputs: &[usize], row: &[V]) -> bool
 }
 
 // The verdict on the lines of a row.
-pub fn judge<V: ValueKind>(outputs: &[usize], row: &[V]) -> Verdict
+pub(crate) fn judge<V: ValueKind>(outputs: &[usize], row: &[V]) -> Verdict
     requires { AreLines outputs.now row.now }
     ensures { result ≡ judged (map V.ValueKind.meaning row.now) outputs.now }
 {
