@@ -32,6 +32,13 @@ impl Circuit {
         name
     }
 
+    /// The inputs of a number of so many bits, the lowest first.
+    fn number(&mut self, name: &str, bits: usize) -> Vec<String> {
+        (0..bits)
+            .map(|bit| self.input(format!("{name}{bit}")))
+            .collect()
+    }
+
     fn gate(&mut self, operator: &'static str, operands: &[&String]) -> String {
         let name = format!("g{}", self.gates.len());
         self.named_gate(name, operator, operands)
@@ -60,7 +67,10 @@ impl Circuit {
     /// Every stuck-at fault: line, pin and level.
     fn faults(&self) -> Vec<(&str, usize, usize)> {
         let inputs = self.inputs.iter().map(|name| (name, 0));
-        let gates = self.gates.iter().map(|gate| (&gate.name, gate.operands.len()));
+        let gates = self
+            .gates
+            .iter()
+            .map(|gate| (&gate.name, gate.operands.len()));
         inputs
             .chain(gates)
             .flat_map(|(name, last)| (0..=last).map(move |pin| (name, pin)))
@@ -128,7 +138,12 @@ fn ripple_adder(bits: usize) -> Circuit {
     let mut circuit = Circuit::default();
     let mut carry = circuit.input("c");
     let numbers: Vec<_> = (0..bits)
-        .map(|bit| (circuit.input(format!("a{bit}")), circuit.input(format!("b{bit}"))))
+        .map(|bit| {
+            (
+                circuit.input(format!("a{bit}")),
+                circuit.input(format!("b{bit}")),
+            )
+        })
         .collect();
     for (a, b) in &numbers {
         let (sum, next) = full_adder(&mut circuit, a, b, &carry);
@@ -142,8 +157,8 @@ fn ripple_adder(bits: usize) -> Circuit {
 /// Says of two numbers of so many bits whether the first is less, whether they are equal, and whether it is greater.
 fn comparator(bits: usize) -> Circuit {
     let mut circuit = Circuit::default();
-    let first: Vec<_> = (0..bits).map(|bit| circuit.input(format!("a{bit}"))).collect();
-    let second: Vec<_> = (0..bits).map(|bit| circuit.input(format!("b{bit}"))).collect();
+    let first = circuit.number("a", bits);
+    let second = circuit.number("b", bits);
     let mut less = None;
     let mut equal = None;
     for (a, b) in first.iter().zip(&second) {
@@ -176,13 +191,22 @@ fn comparator(bits: usize) -> Circuit {
 fn multiplexer() -> Circuit {
     let mut circuit = Circuit::default();
     let select: Vec<_> = (0..4).map(|bit| circuit.input(format!("s{bit}"))).collect();
-    let data: Vec<_> = (0..16).map(|number| circuit.input(format!("d{number}"))).collect();
-    let inverse: Vec<_> = select.iter().map(|line| circuit.gate("not", &[line])).collect();
+    let data: Vec<_> = (0..16)
+        .map(|number| circuit.input(format!("d{number}")))
+        .collect();
+    let inverse: Vec<_> = select
+        .iter()
+        .map(|line| circuit.gate("not", &[line]))
+        .collect();
     let mut chosen = Vec::new();
     for (number, line) in data.iter().enumerate() {
         let mut operands = vec![line];
         for bit in 0..4 {
-            operands.push(if number >> bit & 1 == 1 { &select[bit] } else { &inverse[bit] });
+            operands.push(if number >> bit & 1 == 1 {
+                &select[bit]
+            } else {
+                &inverse[bit]
+            });
         }
         chosen.push(circuit.gate("and", &operands));
     }
@@ -197,9 +221,14 @@ fn multiplexer() -> Circuit {
 /// The parity of 32 lines, as a balanced tree.
 fn parity_tree() -> Circuit {
     let mut circuit = Circuit::default();
-    let mut row: Vec<_> = (0..32).map(|number| circuit.input(format!("a{number}"))).collect();
+    let mut row: Vec<_> = (0..32)
+        .map(|number| circuit.input(format!("a{number}")))
+        .collect();
     while row.len() > 1 {
-        row = row.chunks(2).map(|pair| circuit.gate("xor", &[&pair[0], &pair[1]])).collect();
+        row = row
+            .chunks(2)
+            .map(|pair| circuit.gate("xor", &[&pair[0], &pair[1]]))
+            .collect();
     }
     circuit.output(&row[0]);
     circuit
@@ -208,11 +237,20 @@ fn parity_tree() -> Circuit {
 /// A number of five bits drives one of 32 lines.
 fn decoder() -> Circuit {
     let mut circuit = Circuit::default();
-    let bits: Vec<_> = (0..5).map(|bit| circuit.input(format!("a{bit}"))).collect();
-    let inverse: Vec<_> = bits.iter().map(|line| circuit.gate("not", &[line])).collect();
+    let bits = circuit.number("a", 5);
+    let inverse: Vec<_> = bits
+        .iter()
+        .map(|line| circuit.gate("not", &[line]))
+        .collect();
     for number in 0..32 {
         let operands: Vec<_> = (0..5)
-            .map(|bit| if number >> bit & 1 == 1 { &bits[bit] } else { &inverse[bit] })
+            .map(|bit| {
+                if number >> bit & 1 == 1 {
+                    &bits[bit]
+                } else {
+                    &inverse[bit]
+                }
+            })
             .collect();
         let output = circuit.gate("and", &operands);
         circuit.output(&output);
@@ -223,9 +261,12 @@ fn decoder() -> Circuit {
 /// Multiplies two numbers of so many bits, by an array of adders.
 fn multiplier(bits: usize) -> Circuit {
     let mut circuit = Circuit::default();
-    let first: Vec<_> = (0..bits).map(|bit| circuit.input(format!("a{bit}"))).collect();
-    let second: Vec<_> = (0..bits).map(|bit| circuit.input(format!("b{bit}"))).collect();
-    let mut row: Vec<_> = first.iter().map(|a| circuit.gate("and", &[a, &second[0]])).collect();
+    let first = circuit.number("a", bits);
+    let second = circuit.number("b", bits);
+    let mut row: Vec<_> = first
+        .iter()
+        .map(|a| circuit.gate("and", &[a, &second[0]]))
+        .collect();
     let mut above: Option<String> = None;
     for b in &second[1..] {
         let products: Vec<_> = first.iter().map(|a| circuit.gate("and", &[a, b])).collect();
@@ -235,11 +276,16 @@ fn multiplier(bits: usize) -> Circuit {
         let mut carry: Option<String> = None;
         let mut sums = Vec::new();
         for (place, product) in products.iter().enumerate() {
-            let operands: Vec<_> = [Some(product), upper.get(place), carry.as_ref()].into_iter().flatten().collect();
+            let operands: Vec<_> = [Some(product), upper.get(place), carry.as_ref()]
+                .into_iter()
+                .flatten()
+                .collect();
             let (sum, next) = match operands[..] {
                 [x, y, z] => full_adder(&mut circuit, x, y, z),
                 [x, y] => half_adder(&mut circuit, x, y),
-                _ => unreachable!("the lowest place has a product and an upper sum, each other place a carry too"),
+                _ => unreachable!(
+                    "the lowest place has a product and an upper sum, each other place a carry too"
+                ),
             };
             sums.push(sum);
             carry = Some(next);
@@ -261,12 +307,20 @@ fn multiplier(bits: usize) -> Circuit {
 fn random_logic(inputs: usize, gates: usize, seed: u64) -> Circuit {
     let mut random = Random::new(seed);
     let mut circuit = Circuit::default();
-    let mut lines: Vec<_> = (0..inputs).map(|number| circuit.input(format!("i{number}"))).collect();
+    let mut lines: Vec<_> = (0..inputs)
+        .map(|number| circuit.input(format!("i{number}")))
+        .collect();
     let mut unread = lines.clone();
-    let operators = ["and", "nand", "or", "nor", "and", "nand", "or", "nor", "xor", "xnor", "not"];
+    let operators = [
+        "and", "nand", "or", "nor", "and", "nand", "or", "nor", "xor", "xnor", "not",
+    ];
     for _ in 0..gates {
         let operator = *random.pick(&operators);
-        let count = if operator == "not" { 1 } else { random.between(2, 4).min(random.between(2, 4)) };
+        let count = if operator == "not" {
+            1
+        } else {
+            random.between(2, 4).min(random.between(2, 4))
+        };
         let mut operands: Vec<String> = Vec::new();
         while operands.len() < count {
             let operand = if !unread.is_empty() && random.percent(50) {
@@ -315,7 +369,13 @@ fn main() -> std::io::Result<()> {
         ("adder31", ripple_adder(31), &["nine"], 512, 8_000),
         ("comparator32", comparator(32), &["five"], 512, 6_000),
         ("random20", random_logic(20, 100, 1), &["nine"], 512, 10_000),
-        ("random20full", random_logic(20, 100, 1), &["seven"], 5, 1_000_000),
+        (
+            "random20full",
+            random_logic(20, 100, 1),
+            &["seven"],
+            5,
+            1_000_000,
+        ),
         ("random40", random_logic(40, 250, 2), &["seven"], 512, 2_500),
         ("random64", random_logic(64, 448, 3), &all, 512, 1_500),
     ];

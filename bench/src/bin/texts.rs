@@ -21,25 +21,56 @@ const MOST_TRIES: usize = 1_000_000;
 const JOINING: [&str; 6] = ["and", "nand", "or", "nor", "xor", "xnor"];
 const SINGLE: [&str; 2] = ["not", "buf"];
 const KINDS: [&str; 3] = ["five", "seven", "nine"];
-const HEADS: [&str; 8] = ["inputs", "gate", "outputs", "kind", "fault", "search", "cover", "list"];
+const HEADS: [&str; 8] = [
+    "inputs", "gate", "outputs", "kind", "fault", "search", "cover", "list",
+];
 
 /// Names that mean something elsewhere, or nearly do.
 const TELLING_NAMES: [&str; 40] = [
-    "inputs", "gate", "outputs", "kind", "fault", "search", "cover", "list", "and", "nand", "or", "nor", "xor", "xnor", "not", "buf",
-    "five", "seven", "nine", "none", "open", "spent", "fewest", "covered", "entry", "coverage", "refused", "text", "form", "circuit",
-    "folder", "x", "x0", "x1", "xx", "input", "gates", "an", "andd", "redundan",
+    "inputs", "gate", "outputs", "kind", "fault", "search", "cover", "list", "and", "nand", "or",
+    "nor", "xor", "xnor", "not", "buf", "five", "seven", "nine", "none", "open", "spent", "fewest",
+    "covered", "entry", "coverage", "refused", "text", "form", "circuit", "folder", "x", "x0",
+    "x1", "xx", "input", "gates", "an", "andd", "redundan",
 ];
 
 /// Words that are wrong in most places, or in all.
 const STRANGE_WORDS: [&str; 30] = [
-    "0", "1", "2", "7", "9", "10", "00", "01", "007", "512", "513", "1000000", "1000001", "9999999", "10000000", "99999999",
-    "123456789", "4294967296", "1a", "0x1", "2and", "abcdefgh", "abcdefghi", "longername", "outputsx", "redundant", "eight", "nxor",
-    "seek", "zz",
+    "0",
+    "1",
+    "2",
+    "7",
+    "9",
+    "10",
+    "00",
+    "01",
+    "007",
+    "512",
+    "513",
+    "1000000",
+    "1000001",
+    "9999999",
+    "10000000",
+    "99999999",
+    "123456789",
+    "4294967296",
+    "1a",
+    "0x1",
+    "2and",
+    "abcdefgh",
+    "abcdefghi",
+    "longername",
+    "outputsx",
+    "redundant",
+    "eight",
+    "nxor",
+    "seek",
+    "zz",
 ];
 
 /// Bytes that a text may not have, many of them just outside the allowed ranges.
 const FORBIDDEN: [u8; 24] = [
-    b'A', b'Z', b'\t', b'\r', 0, 1, 9, 11, 31, b'!', b'\'', b'*', b'/', b':', b'@', b'[', b'`', b'{', b'~', 127, 128, 160, 223, 255,
+    b'A', b'Z', b'\t', b'\r', 0, 1, 9, 11, 31, b'!', b'\'', b'*', b'/', b':', b'@', b'[', b'`',
+    b'{', b'~', 127, 128, 160, 223, 255,
 ];
 const ALLOWED: &[u8] = b"abcdefghijklmnopqrstuvwxyz0123456789()  \n";
 
@@ -102,7 +133,15 @@ fn line_of<'a>(head: &'a str, names: impl IntoIterator<Item = &'a String>) -> Wo
 fn word(random: &mut Random, length: usize) -> String {
     let letters = b"abcdefghijklmnopqrstuvwxyz";
     let others = b"abcdefghijklmnopqrstuvwxyz0123456789";
-    (0..length).map(|place| *random.pick(if place == 0 { &letters[..] } else { &others[..] }) as char).collect()
+    (0..length)
+        .map(|place| {
+            *random.pick(if place == 0 {
+                &letters[..]
+            } else {
+                &others[..]
+            }) as char
+        })
+        .collect()
 }
 
 /// How the circuit of a text is to be.
@@ -168,7 +207,9 @@ fn expression(random: &mut Random, plan: &Plan, known: &[Named], depth: usize) -
     }
     let count = random.between(2, plan.most_operands);
     let operator = *random.pick(&JOINING);
-    let operands = (0..count).map(|_| operand(random, plan, known, depth)).collect();
+    let operands = (0..count)
+        .map(|_| operand(random, plan, known, depth))
+        .collect();
     Expression { operator, operands }
 }
 
@@ -177,7 +218,11 @@ fn operand(random: &mut Random, plan: &Plan, known: &[Named], depth: usize) -> O
         return Operand::Gate(expression(random, plan, known, depth + 1));
     }
     // The line that was named last is read often, so that faults of the early lines come through to the outputs.
-    let named = if random.percent(30) { &known[known.len() - 1] } else { random.pick(known) };
+    let named = if random.percent(30) {
+        &known[known.len() - 1]
+    } else {
+        random.pick(known)
+    };
     Operand::Name(named.name.clone())
 }
 
@@ -234,7 +279,10 @@ impl Circuit {
         }
         order.truncate(plan.outputs.min(MOST_OUTPUTS));
         shuffle(random, &mut order);
-        words.push(line_of("outputs", order.iter().map(|&place| &lines[place].name)));
+        words.push(line_of(
+            "outputs",
+            order.iter().map(|&place| &lines[place].name),
+        ));
         Circuit {
             words,
             lines,
@@ -242,6 +290,20 @@ impl Circuit {
             count,
         }
     }
+}
+
+/// A job for each fault of the circuit's lines, in any order.
+fn all_faults(random: &mut Random, circuit: &Circuit) -> Vec<Words> {
+    let mut faults = Vec::new();
+    for line in &circuit.lines {
+        for pin in 0..=line.pins {
+            for level in ["0", "1"] {
+                faults.push(job("fault", &[&line.name, &pin.to_string(), level]));
+            }
+        }
+    }
+    shuffle(random, &mut faults);
+    faults
 }
 
 fn shuffle<T>(random: &mut Random, list: &mut [T]) {
@@ -264,7 +326,9 @@ fn budget(random: &mut Random, circuit: &Circuit) -> usize {
         7..12 => random.between(1, 200),
         12..16 => random.between(100, 3_000),
         16 => *random.pick(&[0, MOST_TRIES + 1, 9_999_999]),
-        _ if circuit.inputs <= 7 && circuit.count <= 60 => *random.pick(&[MOST_TRIES - 1, MOST_TRIES, 50_000]),
+        _ if circuit.inputs <= 7 && circuit.count <= 60 => {
+            *random.pick(&[MOST_TRIES - 1, MOST_TRIES, 50_000])
+        }
         _ if circuit.count <= 100 => random.between(3_000, 50_000),
         _ => random.between(1_000, 8_000),
     }
@@ -272,16 +336,36 @@ fn budget(random: &mut Random, circuit: &Circuit) -> usize {
 
 fn fault(random: &mut Random, circuit: &Circuit) -> Words {
     let line = random.pick(&circuit.lines);
-    let name = if random.percent(3) { word(random, 2) } else { line.name.clone() };
-    let pin = if random.percent(8) { line.pins + random.between(1, 3) } else { random.below(line.pins + 1) };
-    let level = if random.percent(5) { random.between(2, 9) } else { random.below(2) };
-    let pin = if random.percent(1) { *random.pick(&[512, 9_999_999]) } else { pin };
+    let name = if random.percent(3) {
+        word(random, 2)
+    } else {
+        line.name.clone()
+    };
+    let pin = if random.percent(8) {
+        line.pins + random.between(1, 3)
+    } else {
+        random.below(line.pins + 1)
+    };
+    let level = if random.percent(5) {
+        random.between(2, 9)
+    } else {
+        random.below(2)
+    };
+    let pin = if random.percent(1) {
+        *random.pick(&[512, 9_999_999])
+    } else {
+        pin
+    };
     job("fault", &[&name, &pin.to_string(), &level.to_string()])
 }
 
 /// The number of an entry, most often of one that is there.
 fn entry(random: &mut Random, entries: usize) -> usize {
-    if entries == 0 || random.percent(5) { entries + random.below(3) } else { random.below(entries) }
+    if entries == 0 || random.percent(5) {
+        entries + random.below(3)
+    } else {
+        random.below(entries)
+    }
 }
 
 fn jobs(random: &mut Random, circuit: &Circuit) -> Vec<Words> {
@@ -313,16 +397,26 @@ fn jobs(random: &mut Random, circuit: &Circuit) -> Vec<Words> {
             65..72 => {
                 // A second search, with a budget that is not above the first or just above.
                 let first = random.between(1, 9);
-                let second = if random.percent(70) { random.between(1, first) } else { first + 1 };
+                let second = if random.percent(70) {
+                    random.between(1, first)
+                } else {
+                    first + 1
+                };
                 lines.push(job("search", &[&number, &first.to_string()]));
                 lines.push(job("search", &[&number, &second.to_string()]));
             }
             72..90 => lines.push(job("cover", &[&number])),
             90..96 => lines.push(job("list", &[])),
             96 => lines.push(job("kind", &[*random.pick(&KINDS)])),
-            97 => lines.push(job(random.pick::<&str>(&HEADS), &[*random.pick(&STRANGE_WORDS)])),
+            97 => lines.push(job(
+                random.pick::<&str>(&HEADS),
+                &[*random.pick(&STRANGE_WORDS)],
+            )),
             98 => lines.push(job("fault", &[*random.pick(&STRANGE_WORDS), "0", "0"])),
-            _ => lines.push(job("search", &[*random.pick(&STRANGE_WORDS), *random.pick(&STRANGE_WORDS)])),
+            _ => lines.push(job(
+                "search",
+                &[*random.pick(&STRANGE_WORDS), *random.pick(&STRANGE_WORDS)],
+            )),
         }
     }
     if random.percent(70) {
@@ -340,20 +434,35 @@ enum Spacing {
 }
 
 fn spaces(random: &mut Random, least: usize) -> String {
-    let more = if random.percent(40) { random.between(0, 3) } else { 0 };
+    let more = if random.percent(40) {
+        random.between(0, 3)
+    } else {
+        0
+    };
     " ".repeat(least + more)
 }
 
 fn render(random: &mut Random, lines: &[Words]) -> Vec<u8> {
-    let spacing = *random.pick(&[Spacing::Usual, Spacing::Usual, Spacing::Tight, Spacing::Loose]);
+    let spacing = *random.pick(&[
+        Spacing::Usual,
+        Spacing::Usual,
+        Spacing::Tight,
+        Spacing::Loose,
+    ]);
     let mut text = String::new();
     for words in lines {
         if let Spacing::Loose = spacing {
             text += &spaces(random, 0);
         }
         for (place, word) in words.iter().enumerate() {
-            let before = if place == 0 { "(" } else { words[place - 1].as_str() };
-            let needed = ![before, word.as_str()].iter().any(|word| *word == "(" || *word == ")");
+            let before = if place == 0 {
+                "("
+            } else {
+                words[place - 1].as_str()
+            };
+            let needed = ![before, word.as_str()]
+                .iter()
+                .any(|word| *word == "(" || *word == ")");
             match spacing {
                 Spacing::Usual if place > 0 && before != "(" && word != ")" => text.push(' '),
                 Spacing::Tight if place > 0 && needed => text.push(' '),
@@ -423,7 +532,9 @@ fn at_a_limit(random: &mut Random) -> Vec<u8> {
             } else {
                 *random.pick(&[0, 1, 2, MOST_OPERANDS, MOST_OPERANDS + 1, MOST_OPERANDS + 1])
             };
-            let mut line: Words = ["(", "gate", "limit9", "(", operator].map(String::from).into();
+            let mut line: Words = ["(", "gate", "limit9", "(", operator]
+                .map(String::from)
+                .into();
             for number in 0..count {
                 if random.percent(10) || number >= MOST_OPERANDS && random.percent(50) {
                     line.extend(nested(random, 1, &circuit.lines[0].name));
@@ -478,10 +589,15 @@ fn at_a_limit(random: &mut Random) -> Vec<u8> {
                 outputs: 64,
             };
             let mut circuit = Circuit::random(random, &plan);
-            let wanted = random.between(MOST_OUTPUTS - 1, MOST_OUTPUTS + 2).min(circuit.lines.len());
+            let wanted = random
+                .between(MOST_OUTPUTS - 1, MOST_OUTPUTS + 2)
+                .min(circuit.lines.len());
             let mut order: Vec<usize> = (0..circuit.lines.len()).collect();
             shuffle(random, &mut order);
-            let mut names: Vec<String> = order[..wanted].iter().map(|&line| circuit.lines[line].name.clone()).collect();
+            let mut names: Vec<String> = order[..wanted]
+                .iter()
+                .map(|&line| circuit.lines[line].name.clone())
+                .collect();
             match random.below(4) {
                 0 => names.push("unknown9".into()),
                 1 => names.push(names[random.below(wanted)].clone()),
@@ -502,7 +618,8 @@ fn at_a_limit(random: &mut Random) -> Vec<u8> {
             let mut gates = 0;
             while count < wanted {
                 let deep = random.between(1, 7).min(wanted - count);
-                let mut line: Words = ["(".to_string(), "gate".to_string(), format!("g{gates}")].into();
+                let mut line: Words =
+                    ["(".to_string(), "gate".to_string(), format!("g{gates}")].into();
                 let name = if gates > 0 && random.percent(70) {
                     format!("g{}", gates - 1)
                 } else {
@@ -561,14 +678,36 @@ fn at_a_limit(random: &mut Random) -> Vec<u8> {
             let (circuit, mut jobs) = valid(random);
             for _ in 0..random.between(1, 5) {
                 let numbers = [
-                    "0", "1", "00", "01", "10", "999999", "1000000", "1000001", "9999999", "0000001", "10000000", "00000000", "99999999",
-                    "999999999", "18446744073709551616", "1a", "a1",
+                    "0",
+                    "1",
+                    "00",
+                    "01",
+                    "10",
+                    "999999",
+                    "1000000",
+                    "1000001",
+                    "9999999",
+                    "0000001",
+                    "10000000",
+                    "00000000",
+                    "99999999",
+                    "999999999",
+                    "18446744073709551616",
+                    "1a",
+                    "a1",
                 ];
                 let place = random.below(jobs.len());
-                let Some(at) = jobs[place].iter().position(|word| word.as_bytes()[0].is_ascii_digit()) else {
+                let Some(at) = jobs[place]
+                    .iter()
+                    .position(|word| word.as_bytes()[0].is_ascii_digit())
+                else {
                     continue;
                 };
-                let at = if random.percent(60) { at } else { (at + 1).min(jobs[place].len() - 1) };
+                let at = if random.percent(60) {
+                    at
+                } else {
+                    (at + 1).min(jobs[place].len() - 1)
+                };
                 jobs[place][at] = random.pick(&numbers).to_string();
             }
             render(random, &whole(&circuit, &jobs))
@@ -588,16 +727,10 @@ fn full_folder(random: &mut Random) -> Vec<u8> {
         outputs: random.between(1, 64),
     };
     let circuit = Circuit::random(random, &plan);
-    let mut faults = Vec::new();
-    for line in &circuit.lines {
-        for pin in 0..=line.pins {
-            for level in ["0", "1"] {
-                faults.push(job("fault", &[&line.name, &pin.to_string(), level]));
-            }
-        }
-    }
-    shuffle(random, &mut faults);
-    let kept = random.between(MOST_ENTRIES - 1, MOST_ENTRIES + 6).min(faults.len());
+    let mut faults = all_faults(random, &circuit);
+    let kept = random
+        .between(MOST_ENTRIES - 1, MOST_ENTRIES + 6)
+        .min(faults.len());
     faults.truncate(kept);
     let mut lines = circuit.words.clone();
     lines.push(job("kind", &[*random.pick(&KINDS)]));
@@ -611,12 +744,17 @@ fn full_folder(random: &mut Random) -> Vec<u8> {
             }
             1 => lines.push(fault(random, &circuit)),
             2 => {
-                let number = random.between(kept.min(MOST_ENTRIES) - 2, MOST_ENTRIES + 1).to_string();
+                let number = random
+                    .between(kept.min(MOST_ENTRIES) - 2, MOST_ENTRIES + 1)
+                    .to_string();
                 lines.push(job("search", &[&number, "20"]));
             }
             3 | 4 => {
                 let number = random.below(kept).to_string();
-                lines.push(job("search", &[&number, &random.between(1, 3_000).to_string()]));
+                lines.push(job(
+                    "search",
+                    &[&number, &random.between(1, 3_000).to_string()],
+                ));
                 lines.push(job("cover", &[&number]));
             }
             _ => lines.push(job("list", &[])),
@@ -632,7 +770,9 @@ fn padded(random: &mut Random, mut text: Vec<u8>, wanted: usize) -> Vec<u8> {
     }
     match random.below(3) {
         0 => {
-            let starts: Vec<usize> = (0..text.len()).filter(|&place| place == 0 || text[place - 1] == b'\n').collect();
+            let starts: Vec<usize> = (0..text.len())
+                .filter(|&place| place == 0 || text[place - 1] == b'\n')
+                .collect();
             let start = *random.pick(&starts);
             let filling = vec![b' '; wanted - text.len()];
             text.splice(start..start, filling);
@@ -642,9 +782,22 @@ fn padded(random: &mut Random, mut text: Vec<u8>, wanted: usize) -> Vec<u8> {
             if text.last() != Some(&b'\n') {
                 text.push(b'\n');
             }
-            let filling = random.pick(&["(list)\n", "(fault a 0 0)\n", "(seek)\n", "\n", "(cover 0)\n", "?\n"]).as_bytes();
+            let filling = random
+                .pick(&[
+                    "(list)\n",
+                    "(fault a 0 0)\n",
+                    "(seek)\n",
+                    "\n",
+                    "(cover 0)\n",
+                    "?\n",
+                ])
+                .as_bytes();
             // A listing writes a line for each entry, so that many of them would write a great deal.
-            let filling = if filling == b"(list)\n" { b"(list a\n" } else { filling };
+            let filling = if filling == b"(list)\n" {
+                b"(list a\n"
+            } else {
+                filling
+            };
             while text.len() < wanted {
                 text.extend_from_slice(filling);
             }
@@ -664,7 +817,11 @@ fn any_word(random: &mut Random, lines: &[Words]) -> String {
         4 => random.pick(&["(", ")"]).to_string(),
         _ => {
             let all: Vec<&String> = lines.iter().flatten().collect();
-            if all.is_empty() { "a".into() } else { random.pick(&all).to_string() }
+            if all.is_empty() {
+                "a".into()
+            } else {
+                random.pick(&all).to_string()
+            }
         }
     }
 }
@@ -705,7 +862,9 @@ fn damage_words(random: &mut Random, lines: &mut Vec<Words>, first: usize, end: 
             lines.swap(line, other);
         }
         9 => {
-            let brackets: Vec<usize> = (0..lines[line].len()).filter(|&at| ["(", ")"].contains(&lines[line][at].as_str())).collect();
+            let brackets: Vec<usize> = (0..lines[line].len())
+                .filter(|&at| ["(", ")"].contains(&lines[line][at].as_str()))
+                .collect();
             if !brackets.is_empty() {
                 let at = *random.pick(&brackets);
                 lines[line].remove(at);
@@ -725,7 +884,9 @@ fn damage_words(random: &mut Random, lines: &mut Vec<Words>, first: usize, end: 
         12 => lines.insert(line, Words::new()),
         13 => {
             // a word too many in front of a closing bracket, or one too few
-            let closing: Vec<usize> = (1..lines[line].len()).filter(|&at| lines[line][at] == ")").collect();
+            let closing: Vec<usize> = (1..lines[line].len())
+                .filter(|&at| lines[line][at] == ")")
+                .collect();
             if !closing.is_empty() {
                 let at = *random.pick(&closing);
                 if random.percent(50) {
@@ -739,7 +900,10 @@ fn damage_words(random: &mut Random, lines: &mut Vec<Words>, first: usize, end: 
         14 => {
             // further brackets, whether a gate may stand there or not
             let count = random.between(1, 9);
-            let opening: Words = (0..count).flat_map(|_| ["(", *random.pick(&SINGLE)]).map(String::from).collect();
+            let opening: Words = (0..count)
+                .flat_map(|_| ["(", *random.pick(&SINGLE)])
+                .map(String::from)
+                .collect();
             lines[line].splice(place..place, opening);
         }
         15 => {
@@ -818,13 +982,21 @@ fn damaged(random: &mut Random) -> Vec<u8> {
     let mut among_words = 0;
     let mut among_bytes = 0;
     for _ in 0..random.between(1, 4) {
-        if random.percent(55) { among_words += 1 } else { among_bytes += 1 }
+        if random.percent(55) {
+            among_words += 1
+        } else {
+            among_bytes += 1
+        }
     }
     // Half of the damages strike the circuit, and the others the jobs, where a refusal does not end the run.
     let in_circuit = random.percent(50);
     for _ in 0..among_words {
         let split = circuit.words.len();
-        let (first, end) = if in_circuit { (0, split) } else { (split, usize::MAX) };
+        let (first, end) = if in_circuit {
+            (0, split)
+        } else {
+            (split, usize::MAX)
+        };
         damage_words(random, &mut lines, first, end);
     }
     let mut text = render(random, &lines);
@@ -835,7 +1007,11 @@ fn damaged(random: &mut Random) -> Vec<u8> {
             .filter(|(_, byte)| **byte == b'\n')
             .nth(circuit.words.len() - 1)
             .map_or(text.len(), |(place, _)| place + 1);
-        let (first, end) = if in_circuit { (0, split) } else { (split, usize::MAX) };
+        let (first, end) = if in_circuit {
+            (0, split)
+        } else {
+            (split, usize::MAX)
+        };
         damage_bytes(random, &mut text, first, end);
     }
     text
@@ -843,7 +1019,15 @@ fn damaged(random: &mut Random) -> Vec<u8> {
 
 /// Bytes that were never a text: random words, random allowed bytes or any bytes.
 fn noise(random: &mut Random) -> Vec<u8> {
-    let mut text: Vec<u8> = random.pick(&["", "(inputs a b)\n", "(inputs a b)\n(gate y (and a b))\n", "(inputs a)\n(outputs a)\n(kind nine)\n"]).bytes().collect();
+    let mut text: Vec<u8> = random
+        .pick(&[
+            "",
+            "(inputs a b)\n",
+            "(inputs a b)\n(gate y (and a b))\n",
+            "(inputs a)\n(outputs a)\n(kind nine)\n",
+        ])
+        .bytes()
+        .collect();
     for _ in 0..random.between(0, 40) {
         match random.below(10) {
             0 => text.push(*random.pick(&FORBIDDEN)),
@@ -871,15 +1055,7 @@ fn searched(random: &mut Random) -> Vec<u8> {
     let circuit = Circuit::random(random, &plan);
     let mut lines = circuit.words.clone();
     lines.push(job("kind", &[*random.pick(&KINDS)]));
-    let mut faults = Vec::new();
-    for line in &circuit.lines {
-        for pin in 0..=line.pins {
-            for level in ["0", "1"] {
-                faults.push(job("fault", &[&line.name, &pin.to_string(), level]));
-            }
-        }
-    }
-    shuffle(random, &mut faults);
+    let mut faults = all_faults(random, &circuit);
     faults.truncate(random.between(10, 40));
     let entries = faults.len();
     lines.extend(faults);
@@ -887,9 +1063,15 @@ fn searched(random: &mut Random) -> Vec<u8> {
     for number in 0..entries {
         let number = number.to_string();
         if random.percent(10) {
-            lines.push(job("search", &[&number, &random.between(1, 200).to_string()]));
+            lines.push(job(
+                "search",
+                &[&number, &random.between(1, 200).to_string()],
+            ));
         }
-        lines.push(job("search", &[&number, &random.between(10_000, MOST_TRIES).to_string()]));
+        lines.push(job(
+            "search",
+            &[&number, &random.between(10_000, MOST_TRIES).to_string()],
+        ));
         if covering && random.percent(30) {
             lines.push(job("cover", &[&number]));
         }
@@ -913,8 +1095,13 @@ fn text(random: &mut Random) -> Vec<u8> {
 
 fn main() -> std::io::Result<()> {
     let arguments: Vec<String> = std::env::args().skip(1).collect();
-    let number = |place: usize, otherwise: u64| arguments.get(place).map_or(Ok(otherwise), |word| word.parse());
-    let (Some(folder), Ok(count), Ok(seed)) = (arguments.first(), number(1, 10_000), number(2, 1)) else {
+    let number = |place: usize, otherwise: u64| {
+        arguments
+            .get(place)
+            .map_or(Ok(otherwise), |word| word.parse())
+    };
+    let (Some(folder), Ok(count), Ok(seed)) = (arguments.first(), number(1, 10_000), number(2, 1))
+    else {
         eprintln!("usage: texts FOLDER [COUNT] [SEED]");
         std::process::exit(2);
     };
@@ -922,7 +1109,10 @@ fn main() -> std::io::Result<()> {
     for place in 1..=count {
         // Each text has a seed of its own, so that it stays what it is when the others change.
         let mut random = Random::new(seed.wrapping_mul(1_000_003).wrapping_add(place));
-        std::fs::write(Path::new(folder).join(format!("{place:06}")), text(&mut random))?;
+        std::fs::write(
+            Path::new(folder).join(format!("{place:06}")),
+            text(&mut random),
+        )?;
     }
     Ok(())
 }
