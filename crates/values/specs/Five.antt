@@ -1,10 +1,10 @@
--- The kind five: each of the four pairs alone, and all four pairs.
+-- The kind five, Roth's D-calculus: each of the four pairs alone, and all four pairs.
 use Rattle.std.specs.Prelude.{true, false, List, [], ◌∷◌}
 use Rattle.values.specs.Pairs.{Pairs, only, every_pair}
 use Rattle.values.specs.Kind.{Kind}
 use Rattle.values.specs.Made.{closing, SmallestAnswers}
 use Rattle.values.specs.declared.five.Five.{Five}
-use Rattle.values.specs.declared.five.Five.TheVariants.{Pair, Any}
+use Rattle.values.specs.declared.five.Five.TheVariants.{Zero, One, D, NotD, Unknown}
 
 -- the sets of the kind, smaller before larger
 abbrev pub five_sets : List Pairs
@@ -16,8 +16,11 @@ five = closing five_sets every_pair
 
 -- the pairs that a value admits
 abbrev pub five_meaning : Five → Pairs
-five_meaning (Pair good faulty) = only good faulty
-five_meaning Any = every_pair
+five_meaning Zero = only false false
+five_meaning One = only true true
+five_meaning D = only true false
+five_meaning NotD = only false true
+five_meaning Unknown = every_pair
 
 -- the answers of five are the smallest
 abbrev pub FiveSmallest : Type 0

@@ -1,4 +1,4 @@
-// The kind five: a value knows both levels, or nothing.
+// The kind five: the five values of Roth's D-calculus, of which four know both levels and one knows nothing.
 ghost use Rattle.values.specs.Five.{five, five_meaning, five_sets};
 ghost use Rattle.values.specs.Made.{Among};
 ghost use Rattle.values.specs.Laws.{five_laws};
@@ -6,15 +6,47 @@ ghost use Rattle.std.proofs.Common.{rules, arith};
 
 use crate::kind::ValueKind;
 
-// (Not two halves, as in seven and nine: no half is known alone. And no `Option` of a pair in a struct: each arm below would open
-// both, and `None` would not say that every pair is possible.)
 #[derive(Clone, Copy, Debug, PartialEq, Eq)]
 pub enum Five {
-    // The good level and the faulty level.
-    Pair(bool, bool),
+    // Both levels are 0.
+    Zero,
+    // Both levels are 1.
+    One,
+    // The good level is 1 and the faulty level 0: an error, written D in the calculus.
+    D,
+    // The good level is 0 and the faulty level 1.
+    NotD,
     // Any of the four pairs.
-    Any,
+    Unknown,
 }
+
+use Five::{D, NotD, One, Unknown, Zero};
+
+// The D-calculus, a row for the left operand and a column for the right one, each in the order above. (By a table no branch hangs
+// on the operands: a simulation meets them in no order that a processor could guess.)
+static FIVE_AND: [[Five; 5]; 5] = [
+    [Zero, Zero, Zero, Zero, Zero],
+    [Zero, One, D, NotD, Unknown],
+    [Zero, D, D, Zero, Unknown],
+    [Zero, NotD, Zero, NotD, Unknown],
+    [Zero, Unknown, Unknown, Unknown, Unknown],
+];
+
+static FIVE_OR: [[Five; 5]; 5] = [
+    [Zero, One, D, NotD, Unknown],
+    [One, One, One, One, One],
+    [D, One, D, One, Unknown],
+    [NotD, One, One, NotD, Unknown],
+    [Unknown, One, Unknown, Unknown, Unknown],
+];
+
+static FIVE_XOR: [[Five; 5]; 5] = [
+    [Zero, One, D, NotD, Unknown],
+    [One, Zero, NotD, D, Unknown],
+    [D, NotD, Zero, One, Unknown],
+    [NotD, D, One, Zero, Unknown],
+    [Unknown, Unknown, Unknown, Unknown, Unknown],
+];
 
 impl ValueKind for Five {
     ghost kind = { five };
@@ -30,64 +62,51 @@ impl ValueKind for Five {
     ghost small = { omega arith };
 
     fn known(level: bool) -> Five {
-        Five::Pair(level, level)
+        if level { One } else { Zero }
     }
 
     fn unknown() -> Five {
-        Five::Any
+        Unknown
     }
 
     fn not(self) -> Five {
         match self {
-            Five::Pair(good, faulty) => Five::Pair(!good, !faulty),
-            Five::Any => Five::Any,
+            Zero => One,
+            One => Zero,
+            D => NotD,
+            NotD => D,
+            Unknown => Unknown,
         }
     }
 
     fn and(self, other: Five) -> Five {
-        match (self, other) {
-            (Five::Pair(good, faulty), Five::Pair(other_good, other_faulty)) => {
-                Five::Pair(good && other_good, faulty && other_faulty)
-            }
-            // beside an open operand, 00 alone decides
-            (Five::Pair(false, false), _) | (_, Five::Pair(false, false)) => Five::known(false),
-            _ => Five::Any,
-        }
+        FIVE_AND[self as usize][other as usize]
     }
 
     fn or(self, other: Five) -> Five {
-        match (self, other) {
-            (Five::Pair(good, faulty), Five::Pair(other_good, other_faulty)) => {
-                Five::Pair(good || other_good, faulty || other_faulty)
-            }
-            // beside an open operand, 11 alone decides
-            (Five::Pair(true, true), _) | (_, Five::Pair(true, true)) => Five::known(true),
-            _ => Five::Any,
-        }
+        FIVE_OR[self as usize][other as usize]
     }
 
     fn xor(self, other: Five) -> Five {
-        match (self, other) {
-            (Five::Pair(good, faulty), Five::Pair(other_good, other_faulty)) => {
-                Five::Pair(good != other_good, faulty != other_faulty)
-            }
-            _ => Five::Any,
-        }
+        FIVE_XOR[self as usize][other as usize]
     }
 
     fn stick(self, level: bool) -> Five {
-        match self {
-            Five::Pair(good, _) => Five::Pair(good, level),
-            Five::Any => Five::Any,
+        match (self, level) {
+            (Zero | NotD, false) => Zero,
+            (Zero | NotD, true) => NotD,
+            (One | D, false) => D,
+            (One | D, true) => One,
+            (Unknown, _) => Unknown,
         }
     }
 
     fn shows(self) -> bool {
-        matches!(self, Five::Pair(good, faulty) if good != faulty)
+        matches!(self, D | NotD)
     }
 
     fn still(self) -> bool {
-        matches!(self, Five::Pair(good, faulty) if good == faulty)
+        matches!(self, Zero | One)
     }
 
     fn equals(self, other: Five) -> bool {

@@ -2,7 +2,6 @@
 #![tactic(auto)]
 
 pub mod five;
-pub mod half;
 pub mod kind;
 pub mod nine;
 pub mod seven;
