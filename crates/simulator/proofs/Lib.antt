@@ -6,3 +6,4 @@ pub mod Telling
 pub mod LineSets
 pub mod Fanouts
 pub mod Resimulating
+pub mod Reaching

@@ -15,10 +15,10 @@ abbrev pub in_words : List ℕ → ℕ → Bool
 in_words words line = eqb (get_or words (line / 64) 0 / 2 ^ (line % 64) % 2) 1
 
 -- a word keeps its bits where it is joined to another, on the left and on the right
-joined_left : (a b i : ℕ) → eqb (a / 2 ^ i % 2) 1 ≡ true → eqb (bit_or a b / 2 ^ i % 2) 1 ≡ true
+pub joined_left : (a b i : ℕ) → eqb (a / 2 ^ i % 2) 1 ≡ true → eqb (bit_or a b / 2 ^ i % 2) 1 ≡ true
 joined_left a b i e = eq-eqb _ _ (bit_at_or a b i ∙ omega (arith, eqb-true _ _ e, bit_at-lt b i))
 
-joined_right : (a b i : ℕ) → eqb (b / 2 ^ i % 2) 1 ≡ true → eqb (bit_or a b / 2 ^ i % 2) 1 ≡ true
+pub joined_right : (a b i : ℕ) → eqb (b / 2 ^ i % 2) 1 ≡ true → eqb (bit_or a b / 2 ^ i % 2) 1 ≡ true
 joined_right a b i e = eq-eqb _ _ (bit_at_or a b i ∙ omega (arith, eqb-true _ _ e, bit_at-lt a i))
 
 module _ (words : List ℕ) (place more : ℕ) (h : place < length words) where
@@ -60,6 +60,7 @@ rest_some word from place fits (small, one, zeros) = (
     | inr h ↦ absurd (let clash = sym (bit_at_above word 64 (from + place) fits h) ∙ sym (passed word from place) ∙ one in cc)
   ],
   omega arith,
+  sym (passed word from place) ∙ one,
   λ i above below.
       let at : from + (i - from) ≡ i = omega (arith, above) in
       ap (λ (n : ℕ). word / 2 ^ n % 2) (sym at) ∙ sym (passed word from (i - from)) ∙ zeros (i - from) (omega (arith, above, below)),
@@ -79,8 +80,8 @@ module _ (s : LineSet) (line index from : ℕ) (before : (k : ℕ) → line ≤ 
   ]
 
   -- or the first is there
-  pub first_there : (place : ℕ) → index < 8 → line ≤ 64 * index + from → LowestFrom (get_or s.words index 0) from (Some place) → NextFrom s line (Some (64 * index + place))
-  first_there place low at (small, above, zeros) = (
+  pub first_there : (end place : ℕ) → index < 8 → line ≤ 64 * index + from → LowestFrom (get_or s.words index 0) from (Some place) → NextFrom s line end (Some (64 * index + place))
+  first_there end place low at (small, above, one, zeros) = (
     omega (arith, at, above),
     omega (arith, low, small),
     λ k after below. elim (cases_lt k (64 * index + from)) [

@@ -1,6 +1,6 @@
 -- Working out again what a change of the cube can have changed.
 use Rattle.std.proofs.Common.{◌≡◌, ℕ, zero, suc, ◌+◌, ◌-◌, ◌<◌, ◌≤◌, ◌/◌, ◌%◌, ◌^◌, max, Bool, true, false, cond, eqb, ltb, List, [], ◌∷◌, ◌++◌, map, length, take, drop, get_or, set, Option, All, ◌⊎◌, sym, refl, subst, ap, ◌∙◌, inl, inr, arith}
-use Rattle.std.proofs.lemmas.Bool.{cases_eq, and_parts, ltb-true}
+use Rattle.std.proofs.lemmas.Bool.{cases_eq, cases_lt, and_parts, ltb-true}
 use Rattle.std.specs.Int.Bits.{bit_xor}
 use Rattle.std.proofs.lemmas.Nat.Bits.{bit_at_or, bit_at_xor, bit_at-lt}
 use Rattle.std.proofs.Math.ListN.{get_or-append}
@@ -22,10 +22,10 @@ use Rattle.simulator.specs.Fanouts.{none_reads, operands_at, no_gate, Complete}
 use Rattle.simulator.specs.Lines.{line_value, operands_from, joined, negated_by, at_pin, gate_value, gates_after, inputs_row, lines}
 use Rattle.faults.specs.Cubes.{Cube}
 use Rattle.simulator.specs.Detection.{bit, input_value, simulated, set_of}
-use Rattle.simulator.specs.Resimulation.{changed_inputs, Waits, Turned, Turns, Redrives, Settling, Resettles}
+use Rattle.simulator.specs.Resimulation.{changed_inputs, Waits, Turned, Turns, Redriven, Redrives, Settling, Resettles}
 
 -- a line that a larger set lacks a smaller one lacks too
-lacks : (s t : LineSet) (line : ℕ) → Includes s t → has s line ≡ false → has t line ≡ false
+pub lacks : (s t : LineSet) (line : ℕ) → Includes s t → has s line ≡ false → has t line ≡ false
 lacks s t line inc e = go (has t line) refl
   where
     go : (b : Bool) → has t line ≡ b → b ≡ false
@@ -33,7 +33,7 @@ lacks s t line inc e = go (has t line) refl
     go true h = absurd (let clash = sym (inc line h) ∙ e in cc)
 
 -- one line more has its new value: it is the old one, or the gates that read it wait
-pub waits_more : (first bound : ℕ) (gates : List Gate) (readers : List LineSet) (waiting more : LineSet) (old new : List Pairs)
+waits_more : (first bound : ℕ) (gates : List Gate) (readers : List LineSet) (waiting more : LineSet) (old new : List Pairs)
     → Complete first gates readers → Includes more waiting → Waits first bound gates waiting old new
     → (set_of old bound ≡ set_of new bound) ⊎ Includes more (get_or readers bound none_reads)
     → Waits first (bound + 1) gates more old new
@@ -86,15 +86,35 @@ seam_reads zero (o ∷ old) (n ∷ new) same h = refl
 seam_reads (suc line) (o ∷ old) (n ∷ new) same h = seam_reads line old new (omega arith) (omega arith)
 
 -- where the old set is the new one, the seam moves by itself
-pub seam_skips : (line : ℕ) (old new : List Pairs) → length old ≡ length new → line < length new → set_of old line ≡ set_of new line
+seam_skips : (line : ℕ) (old new : List Pairs) → length old ≡ length new → line < length new → set_of old line ≡ set_of new line
     → take line new ++ drop line old ≡ take (line + 1) new ++ drop (line + 1) old
 seam_skips line old new same h alike =
     sym (set-get_or (take line new ++ drop line old) line (only false false))
     ∙ ap (set (take line new ++ drop line old) line) (seam_reads line old new same h ∙ alike)
     ∙ seam_moves line old new same h
 
+-- and past several such lines
+seam_passes : (n line : ℕ) (old new : List Pairs) → length old ≡ length new → line + n ≤ length new → ((i : ℕ) → line ≤ i → i < line + n → set_of old i ≡ set_of new i)
+    → take line new ++ drop line old ≡ take (line + n) new ++ drop (line + n) old
+seam_passes zero line old new same inside alike = ap (λ (m : ℕ). take m new ++ drop m old) (omega arith)
+seam_passes (suc n) line old new same inside alike =
+    let shifted : line + 1 + n ≡ line + suc n = omega arith in
+    seam_skips line old new same (omega arith) (alike line (omega arith) (omega arith))
+    ∙ seam_passes n (line + 1) old new same (omega arith) (λ i at below. alike i (omega (arith, at)) (omega (arith, below)))
+    ∙ ap (λ (m : ℕ). take m new ++ drop m old) shifted
+
+-- what reads them need not wait for them
+waits_passes : (first from next : ℕ) (gates : List Gate) (waiting : LineSet) (old new : List Pairs) → ((i : ℕ) → from ≤ i → i < next → set_of old i ≡ set_of new i)
+    → Waits first from gates waiting old new → Waits first next gates waiting old new
+waits_passes first from next gates waiting old new alike waits k h lacking i d inside below =
+    let operand : ℕ = get_or (operands_at gates k) i d in
+    elim (cases_lt operand from) [
+      | inl passed ↦ waits k h lacking i d inside passed
+      | inr at ↦ alike operand at below
+    ]
+
 -- the value of one line more is written
-pub turned_more : {V : Type 0} (meaning : V → Pairs) (line : ℕ) (value : V) (readers : List LineSet) (waiting more : LineSet) (old new : List Pairs) (row after : List V)
+turned_more : {V : Type 0} (meaning : V → Pairs) (line : ℕ) (value : V) (readers : List LineSet) (waiting more : LineSet) (old new : List Pairs) (row after : List V)
     → length old ≡ length new → line < length new → Turned meaning old new line row → meaning value ≡ set_of new line
     → Turns meaning line value (get_or readers line none_reads) waiting row after more
     → Turned meaning old new (line + 1) after × ((set_of old line ≡ set_of new line) ⊎ Includes more (get_or readers line none_reads))
@@ -158,7 +178,7 @@ module _ {V : Type 0} (A : Values V) (f : Option Fault) where
   next_gates line sets g gates h e = e ∙ ap (λ (row : List V). gates_after A f row gates) (sym (first_gate line sets g gates (omega arith) e))
 
 -- the operands of a gate that fits are lines below it
-below_line : (line : ℕ) (os : List ℕ) → list_all (λ (o : ℕ). ltb o line) os ≡ true → All (λ (o : ℕ). o < line) os
+pub below_line : (line : ℕ) (os : List ℕ) → list_all (λ (o : ℕ). ltb o line) os ≡ true → All (λ (o : ℕ). o < line) os
 below_line line [] e i d h = absurd (omega arith)
 below_line line (o ∷ os) e zero d h = ltb-true o line (and_parts (ltb o line) _ e).0
 below_line line (o ∷ os) e (suc i) d h = below_line line os (and_parts (ltb o line) _ e).1 i d (omega arith)
@@ -333,7 +353,7 @@ module _ (inputs : ℕ) (all : List Gate) (fit : FitFrom inputs all) where
 
 -- The lines of a circuit, its inputs' first.
 module _ {V : Type 0} (A : Values V) (f : Option Fault) (input : ℕ → V) where
-  inputs_long : (n : ℕ) → length (inputs_row A f input n) ≡ n
+  pub inputs_long : (n : ℕ) → length (inputs_row A f input n) ≡ n
   inputs_long zero = refl
   inputs_long (suc n) = grind (arith, common_steps, inputs_long n)
 
@@ -382,12 +402,51 @@ module _ (q t : Cube) (i : ℕ) (alike : (changed_inputs q t / 2 ^ i % 2 ≡ 1) 
       ∙ sym joined
       ∙ none
 
-  pub unchanged : (K : Kind) → input_value K q i ≡ input_value K t i
+  unchanged : (K : Kind) → input_value K q i ≡ input_value K t i
   unchanged K =
       let driven : q.driven / 2 ^ i % 2 ≡ t.driven / 2 ^ i % 2 = omega (arith, bits, bit_at-lt q.driven i, bit_at-lt t.driven i) in
       let level : q.level / 2 ^ i % 2 ≡ t.level / 2 ^ i % 2 = omega (arith, bits, bit_at-lt q.level i, bit_at-lt t.level i) in
       ap (λ (n : ℕ). cond (eqb n 1) (K.values.gates.known (bit q.level i)) K.unknown) driven
       ∙ ap (λ (n : ℕ). cond (bit t.driven i) (K.values.gates.known (eqb n 1)) K.unknown) level
+
+-- Driving anew, from one changed input to the next.
+module _ {V : Type 0} (K : Kind) (meaning : V → Pairs) (q t : Cube) (f : Option Fault) (inputs : ℕ) (gates : List Gate) (old new : List Pairs) (before : List V)
+    (room : inputs ≤ length before) (s : Redriven K meaning q t f inputs old new before) where
+  -- an input that is not changed keeps its set
+  input_keeps : (i : ℕ) → i < inputs → changed_inputs q t / 2 ^ i % 2 ≡ 0 → set_of old i ≡ set_of new i
+  input_keeps i below zero_bit =
+      s.old_driven i below
+      ∙ ap (at_pin K.values f i 0) (unchanged q t i (λ one_bit. absurd (omega (arith, zero_bit, one_bit))) K)
+      ∙ sym (s.new_driven i below)
+
+  -- the inputs up to the next that is changed are passed over
+  pub redriven_until : (waiting : LineSet) (row : List V) (from next : ℕ) → from ≤ next → next ≤ inputs → ((i : ℕ) → from ≤ i → i < next → changed_inputs q t / 2 ^ i % 2 ≡ 0)
+      → Turned meaning old new from row × Waits inputs from gates waiting old new
+      → Turned meaning old new next row × Waits inputs next gates waiting old new
+  redriven_until waiting row from next at within zero_bits (turned, waits) =
+      let alike : (i : ℕ) → from ≤ i → i < next → set_of old i ≡ set_of new i = λ i above below. input_keeps i (omega (arith, below, within)) (zero_bits i above below) in
+      let here : from + (next - from) ≡ next = omega (arith, at) in
+      let moved : take from new ++ drop from old ≡ take (from + (next - from)) new ++ drop (from + (next - from)) old =
+      seam_passes (next - from) from old new (s.old_long ∙ sym s.new_long) (omega (arith, here, within, room, s.new_long)) (λ i above below. alike i above (omega (arith, below, here))) in (
+        turned ∙ moved ∙ ap (λ (m : ℕ). take m new ++ drop m old) here,
+        waits_passes inputs from next gates waiting old new alike waits,
+      )
+
+  -- and it is worked out
+  pub redriven_turn : (readers : List LineSet) (waiting more : LineSet) (row after : List V) (from next : ℕ) (value : V) → Complete inputs gates readers
+      → from ≤ next → next < inputs → ((i : ℕ) → from ≤ i → i < next → changed_inputs q t / 2 ^ i % 2 ≡ 0)
+      → meaning value ≡ at_pin K.values f next 0 (input_value K t next)
+      → Turns meaning next value (get_or readers next none_reads) waiting row after more
+      → Turned meaning old new from row × Waits inputs from gates waiting old new
+      → Turned meaning old new (next + 1) after × Waits inputs (next + 1) gates more old new
+  redriven_turn readers waiting more row after from next value noted at inside zero_bits worked t so_far =
+      let (turned, waits) = redriven_until waiting row from next at (omega arith) zero_bits so_far in
+      let (written, waits_there) =
+      turned_more meaning next value readers waiting more old new row after (s.old_long ∙ sym s.new_long) (omega (arith, inside, room, s.new_long)) turned
+      (worked ∙ sym (s.new_driven next inside)) t in (
+        written,
+        waits_more inputs next gates readers waiting more old new noted t.keeps waits waits_there,
+      )
 
 -- From a row that holds the old lines, driving anew and settling anew give the new lines.
 pub resimulated : {V : Type 0} (K : Kind) (meaning : V → Pairs) (c : Circuit) (f : Option Fault) (q t : Cube) (readers : List LineSet) (waiting : LineSet) (before driven after : List V)

@@ -1,5 +1,5 @@
 -- What simulations under a lawful kind say of vectors.
-use Rattle.std.proofs.Common.{◌≡◌, ℕ, ◌<◌, Bool, true, false, cond, List, length, get_or, Option, sym, refl, ap, ◌∙◌, subst, arith}
+use Rattle.std.proofs.Common.{◌≡◌, ℕ, ◌<◌, Bool, true, false, cond, List, length, get_or, None, Option, sym, refl, ap, ◌∙◌, subst, arith}
 use mathlib.Core.Bool.{false≢true}
 use Rattle.std.specs.List.{list_all, list_any}
 use Rattle.std.proofs.lemmas.List.Folds.{Any-from_list_any, list_any-from_Any, list_any_none, list_any_at}
@@ -14,6 +14,7 @@ use Rattle.faults.specs.declared.fault.Fault.{Fault}
 use Rattle.faults.specs.Cubes.{Cube}
 use Rattle.simulator.specs.declared.verdict.Verdict.TheVariants.{Shows, Still, Unsure}
 use Rattle.simulator.specs.Detection.{bit, input_value, simulated, set_of, detected, is_still, verdict, pair_under, Fills, DrivesAll}
+use Rattle.simulator.specs.Reach.{level_at}
 use Rattle.simulator.specs.Laws.{KeepsVectors, ShownAreTests, StillDetectNothing, VectorsAreShown, Telling, Tells}
 use Rattle.simulator.proofs.Relating.{KeepsGates, KeepsPins, stuck_keeps, line_keeps}
 use Rattle.simulator.proofs.Readings.{vector, pair_is}
@@ -127,6 +128,22 @@ module _ (K : Kind) (M : Pairs → Type 0) (l : Lawful K M) where
       driven i h =
           subst (λ (b : Bool). Just (vector v i) (cond b (K.values.gates.known (bit q.level i)) K.unknown)) (sym (whole i h))
           (subst (λ (x : Bool). Just (pair x x) (K.values.gates.known (bit q.level i))) (sym (fills i (whole i h))) (just.known (bit q.level i)))
+
+  -- a line that has the same level with the fault as without it does not show
+  pub same_level_does_not_show : (c : Circuit) (f : Option Fault) (q : Cube) (v line : ℕ) → Fills v q → level_at c f v line ≡ level_at c None v line
+      → shows (set_of (simulated K c f q) line) ≡ false
+  same_level_does_not_show c f q v line fills same = go (shows (set_of (simulated K c f q) line)) refl
+    where
+      alike : (b : Bool) → differs b b ≡ false
+      alike false = refl
+      alike true = refl
+
+      go : (b : Bool) → shows (set_of (simulated K c f q) line) ≡ b → shows (set_of (simulated K c f q) line) ≡ false
+      go false e = e
+      go true e =
+          let unlike : differs (level_at c None v line) (level_at c f v line) ≡ true =
+          shows_differ (set_of (simulated K c f q) line) (level_at c None v line) (level_at c f v line) e (keeps_vectors c f q v fills line) in
+          absurd (false≢true (sym (alike (level_at c None v line)) ∙ ap (differs (level_at c None v line)) (sym same) ∙ unlike))
 
   -- a cube that shows is a test
   pub shown_are_tests : ShownAreTests K

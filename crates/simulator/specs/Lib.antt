@@ -2,8 +2,10 @@ pub mod Lines
 pub mod Detection
 pub mod Laws
 pub mod LineSets
+pub mod Cursors
 pub mod Fanouts
 pub mod Resimulation
+pub mod Reach
 pub mod Simulation
 pub mod Words
 pub mod Callers

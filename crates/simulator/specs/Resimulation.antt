@@ -1,5 +1,5 @@
 -- Working out again what a change of the cube can have changed.
-use Rattle.std.specs.Prelude.{◌≡◌, ℕ, ◌+◌, ◌<◌, false, List, ◌++◌, map, length, take, drop, Option, slice_set, bit_or, All, ◌⊎◌}
+use Rattle.std.specs.Prelude.{◌≡◌, ℕ, ◌+◌, ◌/◌, ◌%◌, ◌^◌, ◌<◌, ◌≤◌, false, Some, None, List, ◌++◌, map, length, take, drop, Option, slice_set, bit_or, All, ◌⊎◌}
 use Rattle.std.specs.Int.Bits.{bit_xor}
 use Rattle.values.specs.Pairs.{Pairs}
 use Rattle.values.specs.Kind.{Kind}
@@ -19,6 +19,11 @@ Holds K meaning c f q row = map meaning (take (line_count c) row) ≡ simulated 
 -- the inputs that two cubes do not drive alike, bit i for input i
 abbrev pub changed_inputs : Cube → Cube → ℕ
 changed_inputs q t = bit_or (bit_xor q.driven t.driven) (bit_xor q.level t.level)
+
+-- the first of the changed inputs from that one on, if there is one below `inputs`
+abbrev pub NextChanged : ℕ → ℕ → ℕ → Option ℕ → Type 0
+NextChanged changed from inputs None = (i : ℕ) → from ≤ i → i < inputs → changed / 2 ^ i % 2 ≡ 0
+NextChanged changed from inputs (Some next) = (from ≤ next) × (next < inputs) × (changed / 2 ^ next % 2 ≡ 1) × ((i : ℕ) → from ≤ i → i < next → changed / 2 ^ i % 2 ≡ 0)
 
 -- In what follows the sets of the lines before the change are the old ones, and those after it the new ones.
 

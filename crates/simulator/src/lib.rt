@@ -1,16 +1,19 @@
 // Simulation of a circuit under a cube, with the fault that is plugged into a socket.
 #![tactic(auto)]
 
+mod cursor;
 pub mod fanout;
 mod gates;
 mod line_set;
+pub mod reach;
 pub mod resimulation;
 pub mod simulation;
 pub mod socket;
 pub mod verdict;
 
 pub use fanout::Fanout;
-pub use resimulation::resimulate;
+pub use reach::reach_end;
+pub use resimulation::{reshows, resimulate};
 pub use simulation::{
     allow_row, allow_simulation, drives_beyond, simulate, simulate_fault, simulation_tells,
 };

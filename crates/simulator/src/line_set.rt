@@ -1,15 +1,16 @@
 // A set of lines of a circuit.
-ghost use Rattle.std.specs.Prelude.{◌≡◌, ◌<◌, ◌≤◌, ℕ, true, false};
-ghost use Rattle.simulator.specs.LineSets.{has, LowestFrom, NextFrom, Includes};
+ghost use Rattle.std.specs.Prelude.{◌≡◌, ◌<◌, true};
+ghost use Rattle.simulator.specs.LineSets.{has, LowestFrom, Includes, Joined};
 
 // A bit for each line. (Words and no list of numbers: a set is joined to another at each line that changes.)
 #[derive(Clone, Copy)]
 pub struct LineSet {
-    words: [u64; 8],
+    pub(crate) words: [u64; 8],
 }
 
 // The place of the lowest 1 of a word, from that place on.
-fn lowest_from(word: u64, from: usize) -> Option<usize>
+#[inline(always)]
+pub(crate) fn lowest_from(word: u64, from: usize) -> Option<usize>
     requires { from < 64 }
     ensures { LowestFrom word from result }
 {
@@ -26,24 +27,12 @@ impl LineSet {
         LineSet { words: [0; 8] }
     }
 
-    // The first of the lines from that one on.
-    pub fn next_from(&self, line: usize) -> Option<usize>
-        requires { line ≤ 512 }
-        ensures { NextFrom self.now line result }
+    // Whether the line is in the set.
+    pub fn has(&self, line: usize) -> bool
+        requires { line < 512 }
+        ensures { result ≡ has self.now line }
     {
-        if line == 512 {
-            return None;
-        }
-        let first = line / 64;
-        if let Some(place) = lowest_from(self.words[first], line % 64) {
-            return Some(64 * first + place);
-        }
-        for index in first + 1..8 {
-            if let Some(place) = lowest_from(self.words[index], 0) {
-                return Some(64 * index + place);
-            }
-        }
-        None
+        (self.words[line / 64] >> (line % 64)) % 2 == 1
     }
 
     // These and the line.
@@ -58,9 +47,11 @@ impl LineSet {
     }
 
     // Adds those of another set.
+    #[inline(always)]
     pub fn add_all(&mut self, other: &LineSet)
         ensures these { Includes self.new self.old }
         ensures those { Includes self.new other.now }
+        ensures words { Joined self.old other.now self.new }
     {
         for index in 0..8 {
             self.words[index] |= other.words[index];

@@ -17,6 +17,7 @@ use refusals::FolderRefusal;
 use values::kind::ValueKind;
 
 // What a cube gives an input.
+#[inline(always)]
 pub(crate) fn input_value<V: ValueKind>(cube: Cube, input: usize) -> V
     ensures { V.ValueKind.meaning result ≡ input_value V.ValueKind.kind cube input }
 {

@@ -6,7 +6,7 @@ use Rattle.faults.specs.Cubes.{Cube}
 use Rattle.simulator.specs.declared.verdict.Verdict.{Verdict}
 use Rattle.visit.specs.declared.branch.Branch.{Branch}
 use Rattle.visit.specs.declared.progress.Progress as code
-use Rattle.visit.specs.declared.visiting.Setting.{Setting}
+use Rattle.visit.specs.declared.setting.Setting.{Setting}
 use Rattle.visit.specs.Visits.{going_on}
 use Rattle.visit.specs.Settings.{verdict_in, input_count, below_from, branch_met}
 use Rattle.visit.specs.Visiting.{Progress, fewer, drive, due, met, below}

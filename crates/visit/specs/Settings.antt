@@ -7,7 +7,7 @@ use Rattle.simulator.specs.declared.verdict.Verdict.{Verdict}
 use Rattle.simulator.specs.Detection.{verdict}
 use Rattle.visit.specs.declared.branch.Branch.{Branch}
 use Rattle.simulator.specs.Resimulation.{Holds}
-use Rattle.visit.specs.declared.visiting.Setting.{Setting}
+use Rattle.visit.specs.declared.setting.Setting.{Setting}
 use Rattle.visit.specs.Visiting.{Progress, met, below}
 
 -- the verdict on a cube, of the setting's circuit with the fault that is plugged

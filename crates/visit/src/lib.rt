@@ -5,6 +5,7 @@ pub mod answer;
 mod branch;
 mod known;
 mod progress;
+mod setting;
 pub mod visiting;
 
 pub use answer::Answer;

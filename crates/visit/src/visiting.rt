@@ -4,6 +4,7 @@ ghost use Rattle.values.specs.Kind.{Kind};
 ghost use Rattle.faults.specs.Cubes.{nothing_driven};
 ghost use Rattle.simulator.specs.Simulation.{drives_beyond};
 ghost use Rattle.simulator.specs.Callers.{HasRoom, RowKept, SocketEmptied};
+ghost use Rattle.simulator.specs.Detection.{detected};
 ghost use Rattle.simulator.specs.Resimulation.{Holds};
 ghost use Rattle.visit.specs.Visiting.{drive};
 ghost use Rattle.visit.specs.Settings.{verdict_in, input_count, below_branch, branch_met, HoldsUnder};
@@ -12,10 +13,11 @@ ghost use Rattle.visit.specs.Visits.{going_on, left, Visits};
 use crate::answer::Answer;
 use crate::branch::Branch;
 use crate::progress::{BudgetSpent, Progress};
+use crate::setting::Setting;
 use circuit::{Circuit, MOST_LINES};
 use faults::{Cube, Fault};
 use refusals::FolderRefusal;
-use simulator::{Fanout, Socket, Verdict, allow_row, resimulate, simulate};
+use simulator::{Fanout, Socket, Verdict, allow_row, reach_end, reshows, resimulate, simulate};
 use values::kind::ValueKind;
 
 impl Branch {
@@ -44,33 +46,13 @@ impl Branch {
     }
 }
 
-// What a visit leaves as it is: the circuit with its fan-out, the socket with the fault, and how many tries it may make. (The row,
-// which each try writes, is no part: the contracts say of it alone what it holds.)
-#[derive(Clone, Copy)]
-struct Setting<'a> {
-    fanout: &'a Fanout<'a>,
-    socket: &'a Socket,
-    budget: usize,
-}
-
-// The values of so many lines, kept aside. (In an array, since a visit takes no memory.)
-fn kept<V: ValueKind>(lines: usize, row: &[V]) -> [V; MOST_LINES]
-    requires room { lines ≤ length row.now }
-    requires few { lines ≤ 512 }
-    ensures { take lines result ≡ take lines row.now }
+// Copies the values of so many lines from one row to another.
+fn copy_lines<V: ValueKind>(lines: usize, from: &[V], to: &mut [V])
+    requires from { lines ≤ length from.now }
+    requires to { lines ≤ length to.old }
+    ensures { take lines to.new ≡ take lines from.now }
 {
-    let mut values = [V::unknown(); MOST_LINES];
-    values[..lines].copy_from_slice(&row[..lines]);
-    values
-}
-
-// Gives so many lines the values that were kept.
-fn restore<V: ValueKind>(lines: usize, values: &[V; MOST_LINES], row: &mut [V])
-    requires room { lines ≤ length row.old }
-    requires few { lines ≤ 512 }
-    ensures { take lines row.new ≡ take lines values.now }
-{
-    row[..lines].copy_from_slice(&values[..lines]);
+    to[..lines].copy_from_slice(&from[..lines]);
 }
 
 impl Setting<'_> {
@@ -83,6 +65,16 @@ impl Setting<'_> {
         ensures held { HoldsUnder V.ValueKind.kind V.ValueKind.meaning self.now cube row.new }
     {
         resimulate(self.fanout, before, cube, self.socket, row).unwrap()
+    }
+
+    // Whether the kind shows a cube of the circuit's inputs, in a row that holds the lines under another.
+    fn shows<V: ValueKind>(&self, before: Cube, cube: Cube, row: &mut [V]) -> bool
+        requires inside { drives_beyond self.now.fanout.now.circuit.now cube ≡ false }
+        requires room { HasRoom self.now.fanout.now.circuit.now row.old }
+        requires held { HoldsUnder V.ValueKind.kind V.ValueKind.meaning self.now before row.old }
+        ensures { result ≡ detected V.ValueKind.kind self.now.fanout.now.circuit.now self.now.socket.now.fault cube }
+    {
+        reshows(self.fanout, before, cube, self.socket, self.end, row).unwrap()
     }
 
     // Meets a cube: tries it, if it drives fewer inputs than the best, and goes on below it, if it is unsure. The row holds the
@@ -107,6 +99,13 @@ impl Setting<'_> {
             return Err(BudgetSpent);
         }
         progress.tries += 1;
+        if !self.leads_on(&branch, progress) {
+            // nothing below is met: whether the cube is still does not matter
+            if self.shows(above, branch.cube, row) {
+                progress.best = Some(branch.cube);
+            }
+            return Ok(());
+        }
         match self.verdict_on(above, branch.cube, row) {
             Verdict::Shows => {
                 progress.best = Some(branch.cube);
@@ -140,20 +139,19 @@ impl Setting<'_> {
         requires held { HoldsUnder V.ValueKind.kind V.ValueKind.meaning self.now branch.cube row.old }
         ensures { left progress.new result ≡ below_branch V.ValueKind.kind self.now branch (going_on progress.old) }
     {
-        if !self.leads_on(&branch, progress) {
-            return Ok(());
-        }
         let lines = self.fanout.circuit.line_count();
-        let values = kept(lines, row);
+        // in an array, since a visit takes no memory
+        let mut kept = [V::unknown(); MOST_LINES];
+        copy_lines(lines, row, &mut kept);
         for input in branch.next..self.fanout.circuit.input_count() {
             let low = branch.driving(input, false);
             if !progress.is_beaten_by(low.cube) {
                 return Ok(());
             }
             self.meet(branch.cube, low, progress, row)?;
-            restore(lines, &values, row);
+            copy_lines(lines, &kept, row);
             self.meet(branch.cube, branch.driving(input, true), progress, row)?;
-            restore(lines, &values, row);
+            copy_lines(lines, &kept, row);
         }
         Ok(())
     }
@@ -180,6 +178,7 @@ pub fn visit<V: ValueKind>(
     let setting = Setting {
         fanout: &Fanout::new(circuit),
         socket: plug.socket(),
+        end: reach_end(circuit, fault),
         budget,
     };
     let mut progress = Progress::new();

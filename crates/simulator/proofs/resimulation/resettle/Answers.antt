@@ -17,6 +17,7 @@ lines-init g c =
     record {
       from = omega arith;
       within = omega (arith, c.requires.room);
+      copy = λ inner. c.requires.copy;
       same = refl;
       settled = λ old new s.
           subst (λ (n : ℕ). Settling v.kind v.meaning c.args.fault c.args.inputs (drop n gates) c.args.readers.now c.args.waiting old new c.args.row.now) none s;
@@ -26,7 +27,7 @@ pub gate_value-value-requires : goal.gate_value-value-requires
 gate_value-value-requires g c =
     let gates = map gate_model c.args.gates.now in
     let next = c.in-Some.next in
-    let (at, small, lacking) = c.in-Some.ensures in
+    let (at, small, lacking) = c.in-Some.ensures.next in
     let is = c.in-Some-get.ensures.lookup.1 in
     let inside : next - c.args.inputs < length c.args.gates.now = c.in-Some-get.ensures.lookup.3.0 in
     let from = c.lines.invariant.from in
@@ -46,7 +47,7 @@ lines-preserved g c =
     let inputs = c.args.inputs in
     let next = c.in-Some.next in
     let gates = map gate_model c.args.gates.now in
-    let (at, small, lacking) = c.in-Some.ensures in
+    let (at, small, lacking) = c.in-Some.ensures.next in
     let is = c.in-Some-get.ensures.lookup.1 in
     let inside : next - inputs < length c.args.gates.now = c.in-Some-get.ensures.lookup.3.0 in
     let room : inputs + length gates ≡ length c.lines.row = omega (arith, c.requires.room, i.same, length-map c.args.gates.now gate_model) in
@@ -57,11 +58,12 @@ lines-preserved g c =
     c.gate_value-value.ensures ∙ ap (gate_value v.kind.values c.args.fault (map v.meaning (take next c.lines.row))) gate in
     record {
       from = omega (arith, at, i.from);
-      within = omega (arith, here, c.turn.ensures.long);
-      same = c.turn.ensures.long ∙ i.same;
+      within = omega (arith, here, c.turn.ensures.turns.long);
+      copy = λ inner. c.turn.ensures.copy ∙ ap (λ (i : ℕ). get_or c.turn.new.waiting.words i 0) (omega (arith, inner));
+      same = c.turn.ensures.turns.long ∙ i.same;
       settled = λ old new s.
           left_turn inputs gates (fit_all inputs gates c.requires.fit) v.kind v.meaning c.args.fault c.args.readers.now c.lines.waiting old new c.lines.row
-          room c.lines.line i.from i.within (i.settled old new s) next c.gate_value-value.result c.turn.new.row c.turn.new.waiting at here lacking worked c.turn.ensures;
+          room c.lines.line i.from i.within (i.settled old new s) next c.gate_value-value.result c.turn.new.row c.turn.new.waiting at here lacking worked c.turn.ensures.turns;
     }
 
 pub returns-in_default : goal.returns-in_default
@@ -74,7 +76,7 @@ returns-in_default g c =
       i.same,
       λ old new s.
           left_end inputs gates (fit_all inputs gates c.requires.fit) v.kind v.meaning c.args.fault c.args.readers.now c.lines.waiting old new c.lines.row
-          room c.lines.line i.from i.within (i.settled old new s) (λ k at below. c.in_default.ensures k at (omega (arith, below, i.same, c.requires.few))),
+          room c.lines.line i.from i.within (i.settled old new s) (λ k at below. c.in_default.ensures.next k at below),
     )
 
 pub returns-in_default-get : goal.returns-in_default-get
@@ -84,7 +86,7 @@ returns-in_default-get g c =
     let inputs = c.args.inputs in
     let gates = map gate_model c.args.gates.now in
     let room : inputs + length gates ≡ length c.lines.row = omega (arith, c.requires.room, i.same, length-map c.args.gates.now gate_model) in
-    let (at, small, lacking) = c.in-Some.ensures in
+    let (at, small, lacking) = c.in-Some.ensures.next in
     let past : length c.args.gates.now ≤ c.in-Some.next - inputs = ltb-false _ _ (sym c.in_default-get.ensures.lookup.0) in (
       i.same,
       λ old new s.

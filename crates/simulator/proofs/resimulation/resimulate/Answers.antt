@@ -28,9 +28,9 @@ returns-clause-simulates g c holds =
     let whole : take (line_count circuit) (worked ++ drop lines before) ≡ worked = grind (arith, common_steps) in
     let rest : drop (line_count circuit) (worked ++ drop lines before) ≡ drop (line_count circuit) before = grind (arith, common_steps, drop-append-drop) in
     let sets : map v.meaning worked ≡ simulated v.kind circuit fault cube =
-    resimulated v.kind v.meaning circuit fault c.args.before cube c.args.fanout.now.readers c.redrive-waiting.result (take lines before) c.redrive-waiting.new.row worked
+    resimulated v.kind v.meaning circuit fault c.args.before cube c.args.fanout.now.readers c.redrive.result.0 (take lines before) c.redrive.new.row worked
     c.input_count-inputs.result (map gate_model c.gates-gates.result.now) c.input_count-inputs.ensures.value c.gates-gates.ensures.value c.args.fanout.now.complete
-    (ap (λ (n : ℕ). map v.meaning (take n before)) c.line_count.ensures ∙ holds) c.redrive-waiting.ensures c.resettle.ensures in
+    (ap (λ (n : ℕ). map v.meaning (take n before)) c.line_count.ensures ∙ holds) c.redrive.ensures.redrives c.resettle.ensures in
     let is : c.judge.result ≡ verdict v.kind circuit fault cube = c.judge.ensures ∙ rw (sets, c.outputs.ensures.value) refl in
     let answer : Ok c.judge.result ≡ simulation v.kind circuit fault cube (length before) =
     ap Ok is ∙ ap (result_map_both (λ _. verdict v.kind circuit fault cube) (λ (e : FolderRefusal). e)) c.in_ok-allow_simulation.ensures in

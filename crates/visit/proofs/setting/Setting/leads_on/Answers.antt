@@ -1,7 +1,7 @@
 use Rattle.std.proofs.Common.{sym, ◌∙◌, arith}
 use Rattle.visit.specs.Visits.{going_on}
 use Rattle.visit.proofs.Steps.{below_nothing, below_passed_over}
-use Rattle.visit.proofs.visiting.Setting.leads_on.Goals as goal
+use Rattle.visit.proofs.setting.Setting.leads_on.Goals as goal
 
 pub returns-then-branch-input_count : goal.returns-then-branch-input_count
 returns-then-branch-input_count c = λ K beaten.

@@ -1,7 +1,7 @@
 use Rattle.std.proofs.Common.{◌≡◌, ◌+◌, ◌-◌, ◌*◌}
 use Rattle.visit.specs.Visits.{going_on}
 use Rattle.visit.specs.Settings.{input_count, below_from, below_branch, HoldsUnder}
-use Rattle.visit.proofs.visiting.Setting.+go_below_meet.Given as goal
+use Rattle.visit.proofs.setting.Setting.+go_below_meet.Given as goal
 
 abbrev pub decreases-go_below : goal.decreases-go_below
 decreases-go_below g l = 2 * (input_count l.self.now - l.branch.next)

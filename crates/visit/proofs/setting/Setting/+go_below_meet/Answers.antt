@@ -1,11 +1,14 @@
-use Rattle.std.proofs.Common.{rules, ◌^◌, ◌<◌, refl, ◌∙◌, sym, arith, pow_mono}
+use Rattle.std.proofs.Common.{rules, ◌≡◌, ◌^◌, ◌<◌, ◌≤◌, false, refl, ◌∙◌, sym, arith, pow_mono}
 use Rattle.std.proofs.lemmas.Bool.{lt-leb}
 use Rattle.std.proofs.lemmas.Result.{err_from_is_err_and}
+use Rattle.simulator.specs.Simulation.{drives_beyond}
+use Rattle.visit.specs.declared.branch.Branch.{Branch}
+use Rattle.visit.specs.declared.setting.Setting.{Setting}
 use Rattle.visit.specs.Visits.{going_on}
 use Rattle.visit.specs.Settings.{input_count}
 use Rattle.visit.proofs.Steps.{given_up, turned, given_up_first, given_up_second, below_passed_over}
 use Rattle.visit.proofs.Restoring.{restored}
-use Rattle.visit.proofs.visiting.Setting.+go_below_meet.Goals as goal
+use Rattle.visit.proofs.setting.Setting.+go_below_meet.Goals as goal
 
 pub go_below-returns-then-not-is_beaten_by : goal.go_below-returns-then-not-is_beaten_by
 go_below-returns-then-not-is_beaten_by g t c =
@@ -51,29 +54,16 @@ go_below-loop-input-preserved g t c =
           (going_on c.meet-in-loop-input.new.progress) (high.result, high.ensures.cube, high.ensures.next, c.in_ok-meet-2.ensures)
           ∙ c.loop-input.invariant.left;
       held =
-          restored g.V.ValueKind.meaning _ _ c.line_count-lines.result c.args.row.now c.kept-values.result c.restore-in-loop-input.new.row
-          c.line_count-lines.ensures c.restore-in-loop-input.ensures c.kept-values.ensures c.requires.held;
+          restored g.V.ValueKind.meaning _ _ c.line_count-lines.result c.args.row.now c.copy_lines.new.to c.copy_lines-in-loop-input-2.new.to
+          c.line_count-lines.ensures c.copy_lines-in-loop-input-2.ensures c.copy_lines.ensures c.requires.held;
     }
 
+-- a branch drives inputs of the circuit alone
+inside_cube : (s : Setting) (b : Branch) → b.next ≤ input_count s → drives_beyond s.fanout.now.circuit.now b.cube ≡ false
+inside_cube s b h = lt-leb (2 ^ input_count s) b.cube.driven (omega (arith, pow_mono {i = b.next} {j = input_count s} h, b.lower))
+
 pub meet-verdict_on-requires-clause-inside : goal.meet-verdict_on-requires-clause-inside
-meet-verdict_on-requires-clause-inside g t c =
-    let inputs = input_count c.args.self.now in
-    lt-leb (2 ^ inputs) c.args.branch.cube.driven (omega (arith, pow_mono {i = c.args.branch.next} {j = inputs} c.requires.inside, c.args.branch.lower))
+meet-verdict_on-requires-clause-inside g t c = inside_cube c.args.self.now c.args.branch c.requires.inside
 
-pub go_below-kept-values-requires : goal.go_below-kept-values-requires
-go_below-kept-values-requires g t c = (
-  omega (arith, g.met.V.ValueKind.small),
-  (omega (arith, c.line_count-lines.ensures, c.requires.room), omega (arith, c.line_count-lines.ensures, c.args.self.now.fanout.now.few)),
-)
-
-pub go_below-restore-requires : goal.go_below-restore-requires
-go_below-restore-requires g t c = (
-  omega (arith, g.met.V.ValueKind.small),
-  (
-    omega (arith, c.line_count-lines.ensures, c.requires.room, c.meet.auto.row, c.loop-input.auto.row),
-    omega (arith, c.line_count-lines.ensures, c.args.self.now.fanout.now.few),
-  ),
-)
-
-pub go_below-returns-then-not-leads_on : goal.go_below-returns-then-not-leads_on
-go_below-returns-then-not-leads_on g t c = sym (c.leads_on.ensures g.V.ValueKind.kind c.if-not-leads_on.true)
+pub meet-shows-requires-clause-inside : goal.meet-shows-requires-clause-inside
+meet-shows-requires-clause-inside g t c = inside_cube c.args.self.now c.args.branch c.requires.inside
