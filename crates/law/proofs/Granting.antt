@@ -34,16 +34,17 @@ named_granted name (Ok g) o after h =
     (g, refl, ap (λ (x : Granted Outcome). x.answer) same, ap (λ (x : Granted Outcome). x.table) same)
 named_granted name (Err e) o after h = cc
 
--- a fault that is entered: the table with one open entry more
+-- a fault that is entered: it was made, no entry had it, and the table has one open entry more
 pub entered_granted : (table : List Entry) (made : Result Fault FolderRefusal) (g : Granted ℕ) → entered table made ≡ Ok g
-    → (f : Fault) × (g.table ≡ table ++ (opened f ∷ []))
+    → (f : Fault) × (made ≡ Ok f) × (has_fault table f ≡ false) × (g.table ≡ table ++ (opened f ∷ []))
 entered_granted table (Err e) g h = cc
-entered_granted table (Ok f) g h = (f, go (has_fault table f) (leb 512 (length table)) h)
+entered_granted table (Ok f) g h = let parts = go (has_fault table f) (leb 512 (length table)) h in (f, refl, parts.0, parts.1)
   where
-    go : (a b : Bool) → cond a (Err AlreadyEntered) (cond b (Err FolderFull) (Ok (granted (length table) (table ++ (opened f ∷ []))))) ≡ Ok g → g.table ≡ table ++ (opened f ∷ [])
+    go : (a b : Bool) → cond a (Err AlreadyEntered) (cond b (Err FolderFull) (Ok (granted (length table) (table ++ (opened f ∷ []))))) ≡ Ok g
+        → (a ≡ false) × (g.table ≡ table ++ (opened f ∷ []))
     go true b h = cc
     go false true h = cc
-    go false false h = cc
+    go false false h = (refl, cc)
 
 pub found_granted : (o : Option Entry) (e : Entry) → ok_or o NoSuchEntry ≡ Ok e → o ≡ Some e
 found_granted o e h = grind arith

@@ -32,6 +32,7 @@ use Rattle.law.specs.declared.call.Outcome.TheVariants as outcome
 use Rattle.law.specs.Histories.{Event, defined, Step, Run, start, next}
 use Rattle.law.specs.Sound.{is_unspent_outcome, searches, SearchedUnspent, IsRedundant, Sound, KeepsLaw}
 use Rattle.law.proofs.Granting.{both_granted, named_granted, entered_granted, found_granted, allowed_unsettled, answered_is, fewest_state}
+use Rattle.law.proofs.Changing.{Listed, run_lists}
 use Rattle.law.proofs.Keeping.{Known, Kept, kept_first, kept_same, kept_entered, kept_filed, kept_covered}
 
 module _ (K : Kind) (M : Pairs → Type 0) (l : Lawful K M) (c : Circuit) where
@@ -46,7 +47,7 @@ module _ (K : Kind) (M : Pairs → Type 0) (l : Lawful K M) (c : Circuit) where
         → Kept K c (event (Enter asked) places (Ok o) ∷ history) after
     entered_keeps asked o h =
         let (g, made, named, left) = named_granted outcome.Entered (enter_fault (folder before) asked.line asked.pin asked.level) o after h in
-        let (f, table) = entered_granted before (fault_made c asked.line asked.pin asked.level) g made in
+        let (f, is, fresh, table) = entered_granted before (fault_made c asked.line asked.pin asked.level) g made in
         subst (λ (t : List Entry). Kept K c (event (Enter asked) places (Ok o) ∷ history) t) (sym (left ∙ table))
         (kept_entered K c history (event (Enter asked) places (Ok o)) before k f (λ n. refl))
 
@@ -132,7 +133,7 @@ module _ (K : Kind) (M : Pairs → Type 0) (l : Lawful K M) (c : Circuit) where
   searched_redundant history table n f (Redundant tries) k h u = (tries, refl)
   searched_redundant history table n f (Covered m) k h u = cc
 
-  module _ (history : List Event) (table : List Entry) (k : Kept K c history table) where
+  module _ (history : List Event) (table : List Entry) (k : Kept K c history table) (listed : Listed c table) where
     -- what is known of an entry, at its state
     known_at : (n : ℕ) (e : Entry) → slice_get table n ≡ Some e → (s : State) → e.state ≡ s → Known K c history table n e.fault s
     known_at n e at s is = subst (λ (x : State). Known K c history table n e.fault x) is (k.entries n e at)
@@ -145,11 +146,13 @@ module _ (K : Kind) (M : Pairs → Type 0) (l : Lawful K M) (c : Circuit) where
       fewest = λ n e at q tries is. let k = known_at n e at (Fewest q tries) is in (k.1, k.2);
       redundant = λ n e at r. known_at n e at (Redundant r.0) r.1;
       marked = λ n e at h u. searched_redundant history table n e.fault e.state (k.entries n e at) h u;
+      own = listed.own;
+      once = listed.once;
     }
 
   -- the law holds where a history leads
   pub run_sound : (history : List Event) (table : List Entry) → Run K c history table → Sound K c history table
-  run_sound history table run = kept_sound history table (run_keeps history table run)
+  run_sound history table run = kept_sound history table (run_keeps history table run) (run_lists K c history table run)
 
   -- one call more
   pub keeps_law : (before after : Folder) (e : Event) → before.circuit ≡ c → after.circuit ≡ c → Step K c e before.table after.table → KeepsLaw K before e after

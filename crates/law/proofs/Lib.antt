@@ -1,4 +1,5 @@
 pub mod Places
 pub mod Granting
+pub mod Changing
 pub mod Keeping
 pub mod Holding

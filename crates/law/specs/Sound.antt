@@ -1,19 +1,21 @@
 -- The law of the folder, for a value kind, a circuit and a history of calls: what the entries of the table say of vectors
--- and cubes. It speaks of vectors, of cubes that the kind shows to detect a fault, and of the calls made, and of no step of
--- the program.
+-- and cubes, and that each has a fault of its own. It speaks of vectors, of cubes that the kind shows to detect a fault, and of the
+-- calls made, and of no step of the program. And what a call leaves as it was.
 use Rattle.std.specs.Prelude.{◌≡◌, ℕ, Bool, true, false, ◌&&◌, List, ◌∷◌, Some, Ok, Err, Result, ◌==◌}
 use Rattle.std.specs.List.{slice_get, list_any}
 use Rattle.refusals.specs.declared.cause.Refusal.{Refusal}
 use Rattle.values.specs.Kind.{Kind}
 use Rattle.circuit.specs.Model.{Circuit}
+use Rattle.faults.specs.declared.fault.Fault.{Fault}
 use Rattle.faults.specs.Cubes.{Cube}
+use Rattle.faults.specs.Faults.{fault_made}
 use Rattle.simulator.specs.Simulation.{drives_beyond}
 use Rattle.visit.specs.declared.answer.Answer.{Answer}
 use Rattle.visit.specs.declared.answer.Answer.TheVariants as answer
 use Rattle.visit.specs.Meaning.{Test, Unbeaten, Shown, Undetectable}
 use Rattle.folder.specs.declared.state.State.{State}
 use Rattle.folder.specs.declared.state.State.TheVariants.{Fewest, Redundant, Covered}
-use Rattle.folder.specs.Entries.{Entry, state_cube}
+use Rattle.folder.specs.Entries.{Entry, state_cube, state_settled}
 use Rattle.folder.specs.Folders.{Folder}
 use Rattle.law.specs.declared.call.Call.{Call}
 use Rattle.law.specs.declared.call.Call.TheVariants.{Enter, Search, Cover}
@@ -56,6 +58,11 @@ IsRedundant s = (tries : ℕ) × (s ≡ Redundant tries)
 abbrev pub EntryAt : List Entry → ℕ → Entry → Type 0
 EntryAt table number e = slice_get table number ≡ Some e
 
+-- The fault is one of the circuit: the circuit has its line, and the line has its pin. So it is made if it is asked for by these and
+-- some level.
+abbrev pub IsFaultOf : Circuit → Fault → Type 0
+IsFaultOf c f = (level : ℕ) × (fault_made c f.line f.pin level ≡ Ok f)
+
 pub record Sound (K : Kind) (c : Circuit) (history : List Event) (table : List Entry) : Type 0 where
   -- every vector that fills in an entry's cube detects the entry's fault
   pub cubes : (n : ℕ) (e : Entry) → EntryAt table n e → (q : Cube) → state_cube e.state ≡ Some q → Test c e.fault q
@@ -70,6 +77,10 @@ pub record Sound (K : Kind) (c : Circuit) (history : List Event) (table : List E
   pub redundant : (n : ℕ) (e : Entry) → EntryAt table n e → IsRedundant e.state → SearchedUnspent history n × Undetectable c e.fault
   -- an entry that was so searched, and whose fault no vector detects, is redundant
   pub marked : (n : ℕ) (e : Entry) → EntryAt table n e → SearchedUnspent history n → Undetectable c e.fault → IsRedundant e.state
+  -- each entry's fault is one of the circuit
+  pub own : (n : ℕ) (e : Entry) → EntryAt table n e → IsFaultOf c e.fault
+  -- no two entries have the same fault
+  pub once : (n m : ℕ) (e d : Entry) → EntryAt table n e → EntryAt table m d → e.fault ≡ d.fault → n ≡ m
 
 -- The law outlasts an event that leads from one folder to the next: after any history that led from the empty table to the first
 -- folder's, the history with this event leads to the next folder's table, and the law holds there.
@@ -77,3 +88,9 @@ abbrev pub KeepsLaw : Kind → Folder → Event → Folder → Type 0
 KeepsLaw K before e after =
     (history : List Event) → Run K before.circuit history before.table
     → Run K after.circuit (e ∷ history) after.table × Sound K after.circuit (e ∷ history) after.table
+
+-- Each entry keeps its number and its fault, and an entry that is settled (fewest, redundant or covered) stays as it is.
+abbrev pub EntriesStay : List Entry → List Entry → Type 0
+EntriesStay before after =
+    (n : ℕ) (e : Entry) → EntryAt before n e
+    → (d : Entry) × EntryAt after n d × (d.fault ≡ e.fault) × (state_settled e.state ≡ true → d ≡ e)
