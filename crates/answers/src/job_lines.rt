@@ -1,7 +1,5 @@
 // Job lines with the replies to them: searches, covers, and what is refused.
-use crate::expect::circuit_of;
-use folder::Folder;
-use session::{Answer, Session};
+use session::{Answer, Opening, open};
 use std::alloc::Global;
 use std::fmt::Write;
 use std::process::Abort;
@@ -117,8 +115,15 @@ fn expect_replies(
     for Line(job, _) in lines {
         writeln!(text, "{job}")?;
     }
-    let mut session = Session::new(Folder::new(heap, circuit_of(heap, circuit)?));
-    let mut place = circuit.len();
+    let opening = open(heap, text.as_bytes())?;
+    let Opening::Session {
+        mut session,
+        mut place,
+    } = opening
+    else {
+        panic!(rt; "refused: {circuit}")
+    };
+    assert_eq!(rt; place, circuit.len(), "{circuit}");
     for Line(job, expected) in lines {
         let answer = session.answer(heap, text.as_bytes(), place)?;
         let Answer { reply, next } = answer.ok_or("no reply")?;

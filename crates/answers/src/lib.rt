@@ -17,6 +17,8 @@ mod limits;
 #[cfg(test)]
 mod names;
 #[cfg(test)]
+mod openings;
+#[cfg(test)]
 mod order;
 #[cfg(test)]
 mod refused;

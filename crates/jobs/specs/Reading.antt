@@ -1,6 +1,7 @@
 -- How the parts of the job reader follow the definition.
-use Rattle.std.specs.Prelude.{◌≡◌, true, is_some, Some, None, Ok, Err, Option, Result, MatchResult, ⊤}
+use Rattle.std.specs.Prelude.{◌≡◌, ℕ, ◌<◌, ◌≤◌, true, List, length, is_some, Some, None, Ok, Err, Option, Result, MatchOption, MatchResult, ⊤}
 use Rattle.refusals.specs.declared.cause.Refusal.{Refusal}
+use Rattle.refusals.specs.Causes.{cause_of}
 use Rattle.circuit.specs.Model.{names}
 use Rattle.words.specs.Left.{left}
 use Rattle.jobs.specs.declared.job.Kind.{Kind}
@@ -36,3 +37,14 @@ InTurn chosen job.List = is_some chosen ≡ true
 abbrev pub ReadInTurn : Option Kind → Result (Option JobLine) Refusal → Type 0
 ReadInTurn chosen (Ok (Some line)) = InTurn chosen line.job
 ReadInTurn chosen r = ⊤
+
+-- what a refusal is reported by has that place, or one further on
+abbrev pub RefusedFrom : ℕ → Refusal → Type 0
+RefusedFrom place e = MatchOption (cause_of e) ⊤ (λ c. place ≤ c.place)
+
+-- A line that was read takes at least one byte: the next one begins further on. A line that was refused begins before the text's
+-- end, and is refused at its begin or further on.
+abbrev pub ReadForward : List ℕ → ℕ → Result (Option JobLine) Refusal → Type 0
+ReadForward text place (Ok None) = ⊤
+ReadForward text place (Ok (Some line)) = place < line.next
+ReadForward text place (Err e) = (place < length text) × RefusedFrom place e

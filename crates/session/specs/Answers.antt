@@ -1,5 +1,5 @@
 -- What a call that answers a job line promises.
-use Rattle.std.specs.Prelude.{◌≡◌, ℕ, Bool, true, List, [], ◌∷◌, ◌++◌, is_ok, Some, None, Ok, Err, Option, Result, MatchResult, if◌then◌else◌}
+use Rattle.std.specs.Prelude.{◌≡◌, ℕ, ◌<◌, Bool, true, List, [], ◌∷◌, ◌++◌, is_ok, Some, None, Ok, Err, Option, Result, MatchResult, ⊤, if◌then◌else◌}
 use Rattle.std.specs.Result.{result_map_both}
 use Rattle.refusals.specs.declared.cause.Refusal.{Refusal}
 use Rattle.refusals.specs.declared.cause.Refusal.TheVariants.{Folder, Memory}
@@ -8,7 +8,7 @@ use Rattle.law.specs.declared.call.Call.{Call}
 use Rattle.law.specs.declared.call.Call.TheVariants.{Enter, Search, Cover}
 use Rattle.law.specs.declared.call.Outcome.{Outcome}
 use Rattle.law.specs.Histories.{Event, event_of, takes_memory, Step, Run}
-use Rattle.law.specs.Sound.{Sound, KeepsLaw}
+use Rattle.law.specs.Sound.{Sound, EntriesStay, KeepsLaw}
 use Rattle.circuit.specs.Model.{line_count}
 use Rattle.jobs.specs.declared.job.Kind.{Kind}
 use Rattle.jobs.specs.declared.job.Job.{Job}
@@ -56,10 +56,11 @@ Keeps before events after =
     → Run (kind_of k) after.folder.circuit (events ++ history) after.folder.table
     × Sound (kind_of k) after.folder.circuit (events ++ history) after.folder.table
 
--- What the row of that kind promises of a call: what the folder's call does, and that the law outlasts it.
+-- What the row of that kind promises of a call: what the folder's call does, that the law outlasts it, and that entries stay.
 pub record Performs (before : Session) (k : Kind) (call : Call) (r : Result Outcome Refusal) (after : Session) : Type 0 where
   pub step : Step (kind_of k) before.folder.circuit (event_of call (line_count before.folder.circuit) r) before.folder.table after.folder.table
   pub law : KeepsLaw (kind_of k) before.folder (event_of call (line_count before.folder.circuit) r) after.folder
+  pub settled : EntriesStay before.folder.table after.folder.table
   pub circuit : after.folder.circuit ≡ before.folder.circuit
   pub kind : after.kind ≡ before.kind
 
@@ -83,3 +84,8 @@ abbrev pub Answers : Session → List ℕ → ℕ → Result (Option Answer) Ref
 Answers before text place (Ok None) after = (answered before text place ≡ None) × (after ≡ before)
 Answers before text place (Ok (Some a)) after = answered before text place ≡ Some (answer_model a after)
 Answers before text place (Err e) after = (e ≡ Memory) × (after ≡ before) × (stores before text place ≡ true)
+
+-- A line that is answered takes at least one byte: the next line begins further on.
+abbrev pub Forward : ℕ → Result (Option Answer) Refusal → Type 0
+Forward place (Ok (Some a)) = place < a.next
+Forward place r = ⊤

@@ -1,10 +1,11 @@
 // Answering a job line.
 ghost use Rattle.std.specs.Prelude.{◌≡◌, [], ◌∷◌, is_ok, Some, None, MatchResult};
 ghost use Rattle.refusals.specs.declared.cause.Refusal.TheVariants.{Memory};
+ghost use Rattle.law.specs.Sound.{EntriesStay};
 ghost use Rattle.jobs.specs.Reading.{InTurn};
 ghost use Rattle.replies.specs.Replies.{reply_text};
 ghost use Rattle.session.specs.Sessions.{with_kind, outcome_line, line_outcome};
-ghost use Rattle.session.specs.Answers.{Performs, AnswersCall, Does, Answers, Keeps, call_event, job_events, line_events};
+ghost use Rattle.session.specs.Answers.{Performs, AnswersCall, Does, Answers, Forward, Keeps, call_event, job_events, line_events};
 
 use crate::lines::line_after;
 use crate::reply::Answer;
@@ -78,6 +79,7 @@ impl Session {
         requires { self.old.kind ≡ Some kind }
         ensures answers { AnswersCall self.old place kind call result self.new }
         ensures keeps { Keeps self.old (call_event self.old kind call (is_ok result) ∷ []) self.new }
+        ensures settled { EntriesStay self.old.folder.table self.new.folder.table }
     {
         match self.perform(kind, call) {
             Ok(outcome) => Ok(reply_to(outcome, self.folder.circuit().input_count())),
@@ -96,6 +98,7 @@ impl Session {
         requires { InTurn self.old.kind job }
         ensures answers { Does self.old place job result self.new }
         ensures keeps { Keeps self.old (job_events self.old job (is_ok result)) self.new }
+        ensures settled { EntriesStay self.old.folder.table self.new.folder.table }
     {
         match job {
             Job::Kind { kind } => {
@@ -125,7 +128,9 @@ impl Session {
         place: usize,
     ) -> Result<Option<Answer>, Refusal>
         ensures answers { Answers self.old text.now place result self.new }
+        ensures forward { Forward place result }
         ensures keeps { Keeps self.old (line_events self.old (line_outcome self.old text.now place) (is_ok result)) self.new }
+        ensures settled { EntriesStay self.old.folder.table self.new.folder.table }
     {
         match read_job(text, place, self.folder.circuit(), self.kind()) {
             Ok(Some(JobLine { job, next })) => {

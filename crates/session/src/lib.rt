@@ -3,9 +3,11 @@
 
 mod answer;
 mod lines;
+pub mod opening;
 pub mod reply;
 pub mod session;
 mod work;
 
+pub use opening::{Opening, open};
 pub use reply::Answer;
 pub use session::Session;

@@ -3,7 +3,7 @@ ghost use Rattle.std.specs.Prelude.{◌≡◌, MatchResult, vec_len};
 ghost use Rattle.refusals.specs.declared.cause.Refusal.TheVariants.{Memory};
 ghost use Rattle.simulator.specs.Callers.{SocketStaysEmpty};
 ghost use Rattle.law.specs.Histories.{event_of, Step};
-ghost use Rattle.law.specs.Sound.{KeepsLaw};
+ghost use Rattle.law.specs.Sound.{EntriesStay, KeepsLaw};
 ghost use Rattle.session.specs.Kinds.{kind_of};
 ghost use Rattle.session.specs.Works.{work_kind, place_count};
 
@@ -65,6 +65,7 @@ impl Work {
     ) -> Result<Outcome, Refusal>
         ensures step { Step (kind_of (work_kind self.old)) folder.old.circuit (event_of call (place_count self.old) result) folder.old.table folder.new.table }
         ensures law { KeepsLaw (kind_of (work_kind self.old)) folder.old (event_of call (place_count self.old) result) folder.new }
+        ensures settled { EntriesStay folder.old.table folder.new.table }
         ensures circuit { folder.new.circuit ≡ folder.old.circuit }
         ensures socket { SocketStaysEmpty result socket.old socket.new }
         ensures kind { work_kind self.new ≡ work_kind self.old }
