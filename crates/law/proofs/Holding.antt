@@ -1,107 +1,48 @@
 -- The law holds after every history.
 use Rattle.std.proofs.Math.Bool.{and-false}
-use Rattle.std.proofs.Common.{◌≡◌, ℕ, Bool, false, ◌&&◌, List, ◌∷◌, Some, None, Ok, Err, Result, sym, refl, ap, ◌∙◌, subst, true≢false}
+use Rattle.std.proofs.Common.{◌≡◌, ℕ, Bool, false, ◌&&◌, List, ◌∷◌, Some, None, Result, sym, refl, ap, ◌∙◌, subst, true≢false}
 use Rattle.std.proofs.lemmas.Bool.{eq-eqb, ne_eqb}
 use Rattle.std.specs.List.{slice_get}
 use Rattle.refusals.specs.declared.cause.Refusal.{Refusal}
-use Rattle.refusals.specs.declared.cause.Refusal.TheVariants as refusal
 use Rattle.values.specs.Pairs.{Pairs}
 use Rattle.values.specs.Kind.{Kind, Lawful}
 use Rattle.circuit.specs.Model.{Circuit}
 use Rattle.faults.specs.declared.fault.Fault.{Fault}
 use Rattle.faults.specs.Cubes.{Cube}
-use Rattle.faults.specs.declared.stuck_at.StuckAt.{StuckAt}
-use Rattle.faults.specs.Faults.{fault_made}
-use Rattle.simulator.specs.Simulation.{simulation_allowed, drives_beyond}
-use Rattle.visit.specs.declared.answer.Answer.{Answer}
-use Rattle.visit.specs.Visits.{answer_in, Inside}
-use Rattle.visit.specs.Meaning.{Test, Undetectable, Means}
+use Rattle.simulator.specs.Simulation.{drives_beyond}
+use Rattle.visit.specs.Visiting.{answer}
+use Rattle.visit.specs.Meaning.{Test, Undetectable}
 use Rattle.visit.proofs.Counting.{answer_inside}
 use Rattle.visit.proofs.Meanings.{answer_means}
 use Rattle.folder.specs.declared.state.State.{State}
 use Rattle.folder.specs.declared.state.State.TheVariants.{Open, Spent, Fewest, Redundant, Covered}
 use Rattle.folder.specs.Entries.{Entry, state_cube}
 use Rattle.folder.specs.Folders.{Folder}
-use Rattle.folder.specs.Transitions.{Granted, granted, Follows, entry_at, enter_fault}
-use Rattle.folder.specs.Searching.{search_allowed, file_answer, search_entry}
-use Rattle.folder.specs.Covering.{fewest_cube, mark_covered, cover_entry}
 use Rattle.law.specs.declared.call.Call.{Call}
-use Rattle.law.specs.declared.call.Call.TheVariants.{Enter, Search, Cover}
 use Rattle.law.specs.declared.call.Outcome.{Outcome}
-use Rattle.law.specs.declared.call.Outcome.TheVariants as outcome
-use Rattle.law.specs.Histories.{Event, defined, Step, Run, start, next}
-use Rattle.law.specs.Sound.{is_unspent_outcome, searches, SearchedUnspent, IsRedundant, Sound, KeepsLaw}
-use Rattle.law.proofs.Granting.{both_granted, named_granted, entered_granted, found_granted, allowed_unsettled, answered_is, fewest_state}
+use Rattle.law.specs.Histories.{Event, event_of, Step, Run, start, next}
+use Rattle.law.specs.Sound.{is_unspent, searches, SearchedUnspent, IsRedundant, Sound, KeepsLaw}
+use Rattle.law.proofs.Granting.{Change, unchanged, longer, renewed, covered, step_changes}
 use Rattle.law.proofs.Changing.{Listed, run_lists}
 use Rattle.law.proofs.Keeping.{Known, Kept, kept_first, kept_same, kept_entered, kept_filed, kept_covered}
 
 module _ (K : Kind) (M : Pairs → Type 0) (l : Lawful K M) (c : Circuit) where
-  abbrev event : Call → ℕ → Result Outcome Refusal → Event
-  event call places r = record { call = call; places = places; result = r }
-
-  abbrev folder : List Entry → Folder
-  folder table = record { circuit = c; table = table }
-
-  module _ (history : List Event) (before after : List Entry) (k : Kept K c history before) (places : ℕ) where
-    entered_keeps : (asked : StuckAt) (o : Outcome) → defined K (folder before) (Enter asked) places ≡ Ok (granted o after)
-        → Kept K c (event (Enter asked) places (Ok o) ∷ history) after
-    entered_keeps asked o h =
-        let (g, made, named, left) = named_granted outcome.Entered (enter_fault (folder before) asked.line asked.pin asked.level) o after h in
-        let (f, is, fresh, table) = entered_granted before (fault_made c asked.line asked.pin asked.level) g made in
-        subst (λ (t : List Entry). Kept K c (event (Enter asked) places (Ok o) ∷ history) t) (sym (left ∙ table))
-        (kept_entered K c history (event (Enter asked) places (Ok o)) before k f (λ n. refl))
-
-    searched_keeps : (number budget : ℕ) (o : Outcome) → defined K (folder before) (Search number budget) places ≡ Ok (granted o after)
-        → Kept K c (event (Search number budget) places (Ok o) ∷ history) after
-    searched_keeps number budget o h =
-        let (g, is, named, left) = named_granted outcome.Searched (search_entry K (folder before) number budget places) o after h in
-        let (x, found, second) = both_granted (entry_at before number) _ g is in
-        let (u, allowed, third) = both_granted (search_allowed x.state budget) _ g second in
-        let (a, answered, last) = both_granted (answer_in K c x.fault budget places) _ g third in
-        let filed-as : g ≡ file_answer before number x a = cc in
-        let named-as : o ≡ outcome.Searched a = named ∙ ap (λ (y : Granted Answer). outcome.Searched y.answer) filed-as in
-        subst (λ (t : List Entry). Kept K c (event (Search number budget) places (Ok o) ∷ history) t) (sym (left ∙ ap (λ (y : Granted Answer). y.table) filed-as))
-        (kept_filed K c history (event (Search number budget) places (Ok o)) before k number x (found_granted _ x found) (allowed_unsettled x.state budget u allowed) a
-        (subst (λ (y : Answer). Means K c x.fault y) (answered_is K c x.fault budget places a answered) (answer_means K M l c x.fault budget))
-        (subst (λ (y : Answer). Inside c y) (answered_is K c x.fault budget places a answered) (answer_inside K c x.fault budget))
-        (λ n ne. ap (λ (b : Bool). b && is_unspent_outcome o) (ne_eqb number n (λ e. ne (sym e))))
-        (ap (λ (b : Bool). b && is_unspent_outcome o) (eq-eqb number number refl) ∙ ap is_unspent_outcome named-as))
-
-    covered_keeps : (number : ℕ) (o : Outcome) → defined K (folder before) (Cover number) places ≡ Ok (granted o after)
-        → Kept K c (event (Cover number) places (Ok o) ∷ history) after
-    covered_keeps number o h =
-        let (g, is, named, left) = named_granted outcome.Covered (cover_entry K (folder before) number places) o after h in
-        let (x, found, second) = both_granted (entry_at before number) _ g is in
-        let (q, fewest, third) = both_granted (fewest_cube x.state) _ g second in
-        let (u, allowed, last) = both_granted (simulation_allowed c q places) _ g third in
-        let marked-as : g ≡ mark_covered K c before number q = cc in
-        let (tries, state) = fewest_state x.state q fewest in
-        subst (λ (t : List Entry). Kept K c (event (Cover number) places (Ok o) ∷ history) t) (sym (left ∙ ap (λ (y : Granted ℕ). y.table) marked-as))
-        (kept_covered K c history (event (Cover number) places (Ok o)) before k M l number x q tries (found_granted _ x found) state (λ n. refl))
-
-    granted_keeps : (call : Call) (o : Outcome) → defined K (folder before) call places ≡ Ok (granted o after) → Kept K c (event call places (Ok o) ∷ history) after
-    granted_keeps (Enter asked) o h = entered_keeps asked o h
-    granted_keeps (Search number budget) o h = searched_keeps number budget o h
-    granted_keeps (Cover number) o h = covered_keeps number o h
-
-    -- a refused call searches no entry to the end
-    refused_keeps : (call : Call) (e : Refusal) → after ≡ before → Kept K c (event call places (Err e) ∷ history) after
-    refused_keeps call e same =
-        subst (λ (t : List Entry). Kept K c (event call places (Err e) ∷ history) t) (sym same)
-        (kept_same K c history (event call places (Err e)) before k (λ n. and-false (searches n call)))
-
-    step_keeps : (call : Call) (r : Result Outcome Refusal) → Follows (defined K (folder before) call places) before r after → Kept K c (event call places r ∷ history) after
-    step_keeps call (Ok o) h = granted_keeps call o h
-    step_keeps call (Err (refusal.Folder e)) h = refused_keeps call (refusal.Folder e) h.1
-    step_keeps call (Err refusal.Memory) h = refused_keeps call refusal.Memory h.1
-    step_keeps call (Err (refusal.Text e)) h = absurd h
-    step_keeps call (Err (refusal.Form e)) h = absurd h
-    step_keeps call (Err (refusal.Circuit e)) h = absurd h
+  module _ (history : List Event) (before : List Entry) (k : Kept K c history before) (places : ℕ) where
+    -- what is kept outlasts an event: only a search that was granted searches an entry to the end
+    step_keeps : {call : Call} {r : Result Outcome Refusal} (after : List Entry) → Change K c before call r after → Kept K c (event_of call places r ∷ history) after
+    step_keeps after (unchanged call e) = kept_same K c history _ before k (λ n. and-false (searches n call))
+    step_keeps after (longer asked f made fresh) = kept_entered K c history _ before k f (λ n. refl)
+    step_keeps after (renewed number budget x found unsettled) =
+        let a = answer K c x.fault budget in
+        kept_filed K c history _ before k number x found unsettled a (answer_means K M l c x.fault budget) (answer_inside K c x.fault budget)
+        (λ n ne. ap (λ (b : Bool). b && is_unspent a) (ne_eqb number n (λ e. ne (sym e))))
+        (ap (λ (b : Bool). b && is_unspent a) (eq-eqb number number refl))
+    step_keeps after (covered number x q tries found fewest) = kept_covered K c history _ before k M l number x q tries found fewest (λ n. refl)
 
   run_keeps : (history : List Event) (table : List Entry) → Run K c history table → Kept K c history table
   run_keeps history table start = kept_first K c
   run_keeps history table (next {e = e} {history = earlier} {before = before} {after = after} run step) =
-      step_keeps earlier before after (run_keeps earlier before run) e.places e.call e.result step.follows
+      step_keeps earlier before (run_keeps earlier before run) e.places after (step_changes K c before after e step)
 
   -- what a kept table says, in the words of the law
 
