@@ -125,7 +125,7 @@ module _ (K : Kind) (c : Circuit) where
       known_here after (answer.Fewest q tries) m i o = (m.0, m.1, m.2, i)
       known_here after (answer.Redundant tries) m i o = (ap (λ (b : Bool). b || list_any (is_unspent_search number) history) o, m)
       known_here after (answer.Spent None tries) m i o = idle_same number o ∙ unsearched_before
-      known_here after (answer.Spent (Some q) tries) m i o = (idle_same number o ∙ unsearched_before, m, i)
+      known_here after (answer.Spent (Some q) tries) m i o = (idle_same number o ∙ unsearched_before, m.0, i)
 
       module _ (a : Answer) (means : Means K c x.fault a) (inside : Inside c a) (others : (n : ℕ) → (n ≡ number → ⊥) → is_unspent_search n event ≡ false) (own : is_unspent_search number event ≡ is_unspent a) where
         abbrev new : Entry

@@ -5,5 +5,8 @@ pub mod Readings
 pub mod Telling
 pub mod LineSets
 pub mod Fanouts
+pub mod Lines
 pub mod Resimulating
 pub mod Reaching
+pub mod Exciting
+pub mod Logic

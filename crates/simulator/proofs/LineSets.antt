@@ -21,6 +21,13 @@ joined_left a b i e = eq-eqb _ _ (bit_at_or a b i ∙ omega (arith, eqb-true _ _
 pub joined_right : (a b i : ℕ) → eqb (b / 2 ^ i % 2) 1 ≡ true → eqb (bit_or a b / 2 ^ i % 2) 1 ≡ true
 joined_right a b i e = eq-eqb _ _ (bit_at_or a b i ∙ omega (arith, eqb-true _ _ e, bit_at-lt a i))
 
+-- and where a word joined of two has a bit, one of the two has it
+joined_either : (a b i : ℕ) → eqb (bit_or a b / 2 ^ i % 2) 1 ≡ true → (eqb (a / 2 ^ i % 2) 1 ≡ true) ⊎ (eqb (b / 2 ^ i % 2) 1 ≡ true)
+joined_either a b i e = elim (cases_eq (a / 2 ^ i % 2) 1) [
+  | inl one ↦ inl (eq-eqb _ _ one)
+  | inr other ↦ inr (eq-eqb _ _ (omega (arith, bit_at_or a b i, eqb-true _ _ e, other, bit_at-lt a i, bit_at-lt b i)))
+]
+
 module _ (words : List ℕ) (place more : ℕ) (h : place < length words) where
   abbrev pub raised : List ℕ
   raised = set words place (bit_or (get_or words place 0) more)
@@ -41,6 +48,18 @@ module _ (words : List ℕ) (place more : ℕ) (h : place < length words) where
   raised_adds line same e =
       ap (λ (w : ℕ). eqb (w / 2 ^ (line % 64) % 2) 1) (get_or-set_at words place (line / 64) (bit_or (get_or words place 0) more) 0 same h)
       ∙ joined_right (get_or words place 0) more (line % 64) e
+
+  -- and no other
+  pub raised_only : (line : ℕ) → in_words raised line ≡ true → (in_words words line ≡ true) ⊎ ((line / 64 ≡ place) × (eqb (more / 2 ^ (line % 64) % 2) 1 ≡ true))
+  raised_only line e = elim (cases_eq (line / 64) place) [
+    | inl same ↦ elim (joined_either (get_or words place 0) more (line % 64)
+        (ap (λ (w : ℕ). eqb (w / 2 ^ (line % 64) % 2) 1) (sym (get_or-set_at words place (line / 64) (bit_or (get_or words place 0) more) 0 same h)) ∙ e)) [
+          | inl old ↦ inl (ap (λ (p : ℕ). eqb (get_or words p 0 / 2 ^ (line % 64) % 2) 1) same ∙ old)
+          | inr new ↦ inr (same, new)
+        ]
+    | inr other ↦ inl
+        (ap (λ (w : ℕ). eqb (w / 2 ^ (line % 64) % 2) 1) (sym (get_or-set_other words place (line / 64) (bit_or (get_or words place 0) more) 0 other)) ∙ e)
+  ]
 
 -- a bit past so many bits of a word
 passed : (word skipped i : ℕ) → word / 2 ^ skipped / 2 ^ i % 2 ≡ word / 2 ^ (skipped + i) % 2
@@ -70,6 +89,10 @@ rest_some word from place fits (small, one, zeros) = (
 absent : (s : LineSet) (index k : ℕ) → k / 64 ≡ index → get_or s.words index 0 / 2 ^ (k % 64) % 2 ≡ 0 → has s k ≡ false
 absent s index k same e = ap (λ (p : ℕ). eqb (get_or s.words p 0 / 2 ^ (k % 64) % 2) 1) same ∙ ap (λ (n : ℕ). eqb n 1) e
 
+-- and a line whose bit is 1 is
+present : (s : LineSet) (index k : ℕ) → k / 64 ≡ index → get_or s.words index 0 / 2 ^ (k % 64) % 2 ≡ 1 → has s k ≡ true
+present s index k same e = ap (λ (p : ℕ). eqb (get_or s.words p 0 / 2 ^ (k % 64) % 2) 1) same ∙ ap (λ (n : ℕ). eqb n 1) e
+
 -- The lines from one on, word by word, of which none was in the set so far.
 module _ (s : LineSet) (line index from : ℕ) (before : (k : ℕ) → line ≤ k → k < 64 * index + from → has s k ≡ false) where
   -- nor is one in this word
@@ -84,6 +107,8 @@ module _ (s : LineSet) (line index from : ℕ) (before : (k : ℕ) → line ≤ 
   first_there end place low at (small, above, one, zeros) = (
     omega (arith, at, above),
     omega (arith, low, small),
+    present s index (64 * index + place) (omega (arith, small))
+        (ap (λ (i : ℕ). get_or s.words index 0 / 2 ^ i % 2) (let same : (64 * index + place) % 64 ≡ place = omega (arith, small) in same) ∙ one),
     λ k after below. elim (cases_lt k (64 * index + from)) [
       | inl h ↦ before k after h
       | inr h ↦ absent s index k (omega (arith, h, below, small)) (zeros (k % 64) (omega (arith, h, below, small)) (omega (arith, h, below, small)))

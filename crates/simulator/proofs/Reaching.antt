@@ -1,27 +1,27 @@
--- Lines that a fault cannot reach.
-use Rattle.std.proofs.Common.{◌≡◌, leb, ltb, ℕ, zero, suc, ◌+◌, ◌<◌, ◌≤◌, Bool, true, false, cond, ◌&&◌, ◌==◌, List, [], ◌∷◌, ◌++◌, length, take, drop, get_or, Some, None, Option, All, ◌⊎◌, refl, sym, subst, ap, ◌∙◌, inl, inr, arith}
+-- The lines that the effect of a fault can reach, and those that it cannot.
+use Rattle.std.proofs.Common.{◌≡◌, ltb, ℕ, zero, suc, ◌+◌, ◌-◌, ◌<◌, ◌≤◌, Bool, true, false, cond, ◌&&◌, ◌==◌, List, [], ◌∷◌, length, take, get_or, Some, None, Option, All, ◌⊎◌, refl, sym, subst, ap, ◌∙◌, inl, inr, arith}
 use mathlib.Core.Bool.{false≢true}
-use Rattle.std.proofs.lemmas.Grind.{common_steps}
 use Rattle.std.specs.List.{list_any}
-use Rattle.std.proofs.lemmas.Bool.{cases_eq, cases_lt, ne_eqb, and_parts, leb-true, lt-ltb, le-ltb}
-use Rattle.std.proofs.lemmas.List.Folds.{list_any_at}
-use Rattle.std.proofs.lemmas.List.{get_or-take, drop_more, length-take-le}
-use Rattle.values.specs.Pairs.{Pairs, shows, only}
+use Rattle.std.proofs.lemmas.Bool.{cases_lt, ltb-true, ne_eqb, lt-ltb, le-ltb}
+use Rattle.std.proofs.lemmas.Grind.{common_steps}
+use Rattle.std.proofs.lemmas.List.Folds.{list_any_at, list_any_none, Any-from_list_any}
+use Rattle.std.proofs.lemmas.List.{get_or_default, get_or-take, length-take-le}
+use Rattle.values.specs.Pairs.{Pairs, shows}
 use Rattle.values.specs.Values.{Values, faulty_levels}
 use Rattle.values.specs.Kind.{Kind, Lawful}
 use Rattle.faults.specs.Cubes.{Cube}
 use Rattle.circuit.specs.Model.{Gate, Circuit, line_count}
-use Rattle.circuit.specs.Lawful.{gate_fits, each_after, lawful}
+use Rattle.circuit.specs.Lawful.{gate_fits, lawful}
 use Rattle.faults.specs.declared.fault.Fault.{Fault}
 use Rattle.simulator.specs.declared.line_set.LineSet.{LineSet}
-use Rattle.simulator.specs.LineSets.{has, Includes}
-use Rattle.simulator.specs.Fanouts.{none_reads, operands_at, no_gate, Complete}
-use Rattle.simulator.specs.Lines.{line_value, operands_from, at_pin, gate_value, gates_after, inputs_row, lines}
+use Rattle.simulator.specs.LineSets.{has, IsEmpty, Includes, OnlyMore}
+use Rattle.simulator.specs.Fanouts.{operands_at, no_gate}
+use Rattle.simulator.specs.Lines.{line_value, operands_from, at_pin, gate_value}
 use Rattle.simulator.specs.Detection.{bit, levels_under, set_of, simulated, detected}
-use Rattle.simulator.specs.Reach.{Unreached, UnseenFrom}
+use Rattle.simulator.specs.Reach.{level_at, UnseenFrom, Reaches, own_line, through_gate, AllReached, OnlyReached}
 use Rattle.simulator.proofs.Rules.{outputs_below}
 use Rattle.simulator.proofs.Telling.{same_level_does_not_show}
-use Rattle.simulator.proofs.Resimulating.{lacks, gates_keep_front, gate_same, next_line, next_gates, inputs_long, lines_long, lines_gates, lines_input, operands_below, fit_all}
+use Rattle.simulator.proofs.Lines.{gate_same, lines_long, lines_input, operands_below, gates_fit, few_lines, gate_line}
 
 -- A fault at another line does nothing to a gate.
 module _ {V : Type 0} (A : Values V) (f : Fault) where
@@ -36,34 +36,8 @@ module _ {V : Type 0} (A : Values V) (f : Fault) where
   pub gate_of_another : (row : List V) (g : Gate) → (f.line == length row) ≡ false → gate_value A (Some f) row g ≡ gate_value A None row g
   gate_of_another row g other = rw (pin_of_another (length row) 0 _ other, operands_of_another row (length row) 1 g.operands other) refl
 
--- The lines of a circuit, gate by gate.
-module _ {V : Type 0} (A : Values V) (f : Option Fault) (input : ℕ → V) (c : Circuit) where
-  abbrev pub sets : List V
-  sets = lines A c f input
-
-  -- what stands from a gate on is made by the gates from there on
-  lines_from : (k line : ℕ) → line ≡ length c.inputs + k → k ≤ length c.gates → sets ≡ gates_after A f (take line sets) (drop k c.gates)
-  lines_from zero line is h = lines_gates A f input c ∙ ap (λ (n : ℕ). gates_after A f (take n sets) c.gates) (omega (arith, is))
-  lines_from (suc k) line is h =
-      let before : ℕ = length c.inputs + k in
-      let rest : drop k c.gates ≡ get_or c.gates k no_gate ∷ drop (k + 1) c.gates = drop_more c.gates k no_gate (omega (arith, h)) in
-      let made : sets ≡ gates_after A f (take before sets) (get_or c.gates k no_gate ∷ drop (k + 1) c.gates) =
-      lines_from k before refl (omega (arith, h)) ∙ ap (gates_after A f (take before sets)) rest in
-      let here : before < length sets = omega (arith, h, lines_long A f input c) in
-      let next : k + 1 ≡ suc k = omega arith in
-      next_gates A f before sets (get_or c.gates k no_gate) (drop (k + 1) c.gates) here made
-      ∙ ap (λ (n : ℕ). gates_after A f (take n sets) (drop (k + 1) c.gates)) (omega (arith, is))
-      ∙ ap (λ (n : ℕ). gates_after A f (take line sets) (drop n c.gates)) next
-
-  -- so the line of a gate carries what the gate makes of the lines before
-  pub gate_line : (k line : ℕ) (d : V) → line ≡ length c.inputs + k → k < length c.gates → get_or sets line d ≡ gate_value A f (take line sets) (get_or c.gates k no_gate)
-  gate_line k line d is h =
-      let rest : drop k c.gates ≡ get_or c.gates k no_gate ∷ drop (k + 1) c.gates = drop_more c.gates k no_gate h in
-      next_line A f line sets (get_or c.gates k no_gate) (drop (k + 1) c.gates) d (omega (arith, is, h, lines_long A f input c))
-      (lines_from k line is (omega (arith, h)) ∙ ap (gates_after A f (take line sets)) rest)
-
--- One line more that the fault does not reach.
-module _ (c : Circuit) (f : Fault) (reached : LineSet) (v : ℕ) where
+-- A line that the effect of the fault does not come from has its level.
+module _ (c : Circuit) (f : Fault) (v : ℕ) where
   abbrev pub with_fault : List Bool
   with_fault = levels_under c (Some f) v
 
@@ -93,111 +67,137 @@ module _ (c : Circuit) (f : Fault) (reached : LineSet) (v : ℕ) where
       ∙ gate_same faulty_levels None (take line with_fault) (take line without) g (long_with ∙ sym long_without) before
       ∙ sym (gate_line faulty_levels None (bit v) c k line false is h)
 
--- The set of the lines that the fault reaches, with one gate more: its line is in the set, or it reads none of them.
-pub reached_more : (c : Circuit) (f : Fault) (reached more : LineSet) (k line : ℕ) → line ≡ length c.inputs + k → k < length c.gates
-    → gate_fits line (get_or c.gates k no_gate) ≡ true → line < 512 → (f.line < 512 → has reached f.line ≡ true) → Includes more reached
-    → (has more line ≡ true) ⊎ (list_any (has reached) (get_or c.gates k no_gate).operands ≡ false)
-    → Unreached c f line reached → Unreached c f (line + 1) more
-reached_more c f reached more k line is h fits small own inc gate so_far v l below lacking = elim (cases_lt l line) [
-  | inl low ↦ so_far v l low (lacks more reached l inc lacking)
-  | inr high ↦
-      let here : l ≡ line = omega (arith, high, below) in
-      subst (λ (n : ℕ). get_or (levels_under c (Some f) v) n false ≡ get_or (levels_under c None v) n false) (sym here) (at gate (ap (has more) (sym here) ∙ lacking))
-]
-  where
-    g : Gate
-    g = get_or c.gates k no_gate
+-- A line that the effect of the fault cannot reach has under each vector the same level with the fault as without it.
+module _ (c : Circuit) (rules : lawful c ≡ true) (f : Fault) (v : ℕ) where
+  elsewhere : (line : ℕ) → (Reaches c f line → ⊥) → (f.line == line) ≡ false
+  elsewhere line never = ne_eqb f.line line (λ same. never (subst (Reaches c f) same own_line))
 
-    unread : (o : ℕ) → (b : Bool) → has reached o ≡ b → (b ≡ true → ⊥) → has reached o ≡ false
-    unread o false e never = e
-    unread o true e never = absurd (never refl)
+  -- so it is for each line below a bound, if it is for the lines below that
+  unreached_below : (bound line : ℕ) → line < bound → line < line_count c → (Reaches c f line → ⊥) → level_at c (Some f) v line ≡ level_at c None v line
+  unreached_below zero line low below never = absurd (omega (arith, low))
+  unreached_below (suc bound) line low below never = elim (cases_lt line (length c.inputs)) [
+    | inl input ↦ same_input c f v line input (elsewhere line never)
+    | inr behind ↦
+        let k : ℕ = line - length c.inputs in
+        let is : line ≡ length c.inputs + k = omega (arith, behind) in
+        let inside : k < length c.gates = omega (arith, is, below) in
+        let g : Gate = get_or c.gates k no_gate in
+        let fits : gate_fits line g ≡ true = ap (λ (n : ℕ). gate_fits n g) is ∙ gates_fit c rules k inside in
+        same_gate c f v k line is inside (elsewhere line never) fits (λ i d h.
+        let before : get_or g.operands i d < line = operands_below line g fits i d h in
+        unreached_below bound (get_or g.operands i d) (omega (arith, before, low)) (omega (arith, before, below)) (λ reaches.
+        let through : Reaches c f (length c.inputs + k) =
+        through_gate k i inside h (subst (Reaches c f) (get_or_default g.operands i d 0 h) reaches) in
+        never (subst (Reaches c f) (sym is) through)))
+  ]
 
-    elsewhere : has more line ≡ false → (f.line == line) ≡ false
-    elsewhere none = elim (cases_eq f.line line) [
-      | inl same ↦
-          let mine : has more line ≡ true = inc line (ap (has reached) (sym same) ∙ own (omega (arith, same, small))) in
-          absurd (let clash = sym mine ∙ none in cc)
-      | inr other ↦ ne_eqb f.line line other
-    ]
+  pub unreached_same : (line : ℕ) → line < line_count c → (Reaches c f line → ⊥) → level_at c (Some f) v line ≡ level_at c None v line
+  unreached_same line = unreached_below (line + 1) line (omega arith)
 
-    at : (has more line ≡ true) ⊎ (list_any (has reached) g.operands ≡ false) → has more line ≡ false
-        → get_or (levels_under c (Some f) v) line false ≡ get_or (levels_under c None v) line false
-    at (inl mine) none = absurd (let clash = sym mine ∙ none in cc)
-    at (inr reads_none) none =
-        same_gate c f reached v k line is h (elsewhere none) fits (λ i d inside.
-        let o : ℕ = get_or g.operands i d in
-        so_far v o (operands_below line g fits i d inside)
-        (unread o (has reached o) refl (λ yes. false≢true (sym reads_none ∙ list_any_at (has reached) g.operands i d inside yes))))
+-- The set of the lines that the effect can reach, as it stands after the first gates, of which there are that many.
+pub record Collected (c : Circuit) (f : Fault) (reached : LineSet) (count : ℕ) : Type 0 where
+  -- the fault's own line is in it
+  pub own : f.line < 512 → has reached f.line ≡ true
+  -- only lines that the effect can reach are in it
+  pub reaches : OnlyReached c f reached
+  -- each of those gates that reads a line of the set is in it
+  pub closed : (k i : ℕ) → k < count → k < length c.gates → i < length (operands_at c.gates k) → has reached (get_or (operands_at c.gates k) i 0) ≡ true
+      → has reached (length c.inputs + k) ≡ true
 
--- before any gate only the inputs count
-pub reached_inputs : (c : Circuit) (f : Fault) (reached : LineSet) → length c.inputs ≤ 512 → (f.line < 512 → has reached f.line ≡ true) → Unreached c f (length c.inputs) reached
-reached_inputs c f reached few own v i below lacking = elim (cases_eq f.line i) [
-  | inl same ↦ absurd (let clash = sym (own (omega (arith, same, below, few))) ∙ ap (has reached) same ∙ lacking in cc)
-  | inr other ↦ same_input c f reached v i below (ne_eqb f.line i other)
-]
+-- The set from the start, and with one gate more.
+module _ (c : Circuit) (f : Fault) where
+  -- before the first gate it has the fault's own line alone, or no line if a set has no room for that
+  pub own_alone : (empty more : LineSet) → IsEmpty empty → has more f.line ≡ true → OnlyMore empty f.line more → Collected c f more 0
+  own_alone empty more none own only_it =
+      record {
+        own = λ small. own;
+        reaches = λ line holds. elim (only_it line holds) [
+          | inl old ↦ absurd (false≢true (sym (none line) ∙ old))
+          | inr same ↦ subst (Reaches c f) (sym same) own_line
+        ];
+        closed = λ k i low. absurd (omega (arith, low));
+      }
 
--- each gate of a circuit that keeps the rules fits its line, which is one of at most 512
-pub all_fit : (c : Circuit) → lawful c ≡ true → each_after (λ (before : List Gate). gate_fits (length c.inputs + length before)) [] c.gates ≡ true
-all_fit c e = grind (arith, and_parts)
+  pub own_beyond : (empty : LineSet) → IsEmpty empty → (f.line < 512 → ⊥) → Collected c f empty 0
+  own_beyond empty none beyond =
+      record {
+        own = λ small. absurd (beyond small);
+        reaches = λ line holds. absurd (false≢true (sym (none line) ∙ holds));
+        closed = λ k i low. absurd (omega (arith, low));
+      }
 
-pub gates_fit : (c : Circuit) → lawful c ≡ true → (k : ℕ) → k < length c.gates → gate_fits (length c.inputs + k) (get_or c.gates k no_gate) ≡ true
-gates_fit c e k h = fit_all (length c.inputs) c.gates (all_fit c e) k h
+  -- a gate that reads none of the set is passed over
+  pub gate_passed : (reached : LineSet) (count : ℕ) → list_any (has reached) (operands_at c.gates count) ≡ false → Collected c f reached count → Collected c f reached (count + 1)
+  gate_passed reached count none so_far =
+      record {
+        own = so_far.own;
+        reaches = so_far.reaches;
+        closed = λ k i low inside h holds. elim (cases_lt k count) [
+          | inl before ↦ so_far.closed k i before inside h holds
+          | inr from ↦
+              let here : k ≡ count = omega (arith, low, from) in
+              let found : list_any (has reached) (operands_at c.gates k) ≡ true = list_any_at (has reached) (operands_at c.gates k) i 0 h holds in
+              absurd (false≢true (sym none ∙ ap (λ (n : ℕ). list_any (has reached) (operands_at c.gates n)) (sym here) ∙ found))
+        ];
+      }
 
-pub few_lines : (c : Circuit) → lawful c ≡ true → line_count c ≤ 512
-few_lines c e =
-    let few : leb (line_count c) 512 ≡ true = grind (arith, and_parts) in
-    leb-true _ _ few
+  -- a gate that reads one of the set is a line that the effect can reach
+  reached_by_gate : (reached : LineSet) (k : ℕ) → k < length c.gates → OnlyReached c f reached → list_any (has reached) (operands_at c.gates k) ≡ true
+      → Reaches c f (length c.inputs + k)
+  reached_by_gate reached k inside reaches some =
+      let (i, o, h, at, holds) = Any-from_list_any (has reached) (operands_at c.gates k) some in
+      through_gate k i inside h (reaches (get_or (operands_at c.gates k) i 0) (ap (has reached) (get_or_default (operands_at c.gates k) i 0 o h ∙ at) ∙ holds))
 
--- The front of a circuit: its first gates, of which there are k.
-abbrev pub front : ℕ → Circuit → Circuit
-front k c = record { inputs = c.inputs; gates = take k c.gates; outputs = c.outputs }
+-- In a circuit that keeps the rules, a line that is added later is no operand of an earlier gate.
+module _ (c : Circuit) (rules : lawful c ≡ true) (f : Fault) where
+  -- each operand stands before its gate
+  earlier_operand : (k i : ℕ) → k < length c.gates → i < length (operands_at c.gates k) → get_or (operands_at c.gates k) i 0 < length c.inputs + k
+  earlier_operand k i inside h = operands_below (length c.inputs + k) (get_or c.gates k no_gate) (gates_fit c rules k inside) i 0 h
 
-module _ {V : Type 0} (A : Values V) (f : Option Fault) where
-  gates_front : (k : ℕ) (row : List V) (gates : List Gate) → k ≤ length gates → gates_after A f row (take k gates) ≡ take (length row + k) (gates_after A f row gates)
-  gates_front zero row gates h = sym (gates_keep_front A f row gates) ∙ ap (λ (n : ℕ). take n (gates_after A f row gates)) (omega arith)
-  gates_front (suc k) row [] h = absurd (omega arith)
-  gates_front (suc k) row (g ∷ gates) h =
-      let longer : List V = row ++ (gate_value A f row g ∷ []) in
-      let long : length longer ≡ length row + 1 = grind (arith, common_steps) in
-      gates_front k longer gates (omega (arith, h)) ∙ ap (λ (n : ℕ). take n (gates_after A f longer gates)) (omega (arith, long))
+  -- the line of a gate that reads one of the set is added
+  pub gate_added : (reached more : LineSet) (count : ℕ) → count < length c.gates → list_any (has reached) (operands_at c.gates count) ≡ true
+      → Includes more reached → has more (length c.inputs + count) ≡ true → OnlyMore reached (length c.inputs + count) more
+      → Collected c f reached count → Collected c f more (count + 1)
+  gate_added reached more count inside some inc added only_it so_far =
+      record {
+        own = λ small. inc f.line (so_far.own small);
+        reaches = λ line holds. elim (only_it line holds) [
+          | inl old ↦ so_far.reaches line old
+          | inr new ↦ subst (Reaches c f) (sym new) (reached_by_gate c f reached count inside so_far.reaches some)
+        ];
+        closed = λ k i low within h holds. elim (cases_lt k count) [
+          | inl before ↦ elim (only_it (get_or (operands_at c.gates k) i 0) holds) [
+            | inl old ↦ inc (length c.inputs + k) (so_far.closed k i before within h old)
+            | inr new ↦ absurd (omega (arith, new, before, earlier_operand k i within h))
+          ]
+          | inr from ↦
+              let here : length c.inputs + count ≡ length c.inputs + k = omega (arith, low, from) in
+              ap (has more) (sym here) ∙ added
+        ];
+      }
 
-  -- its lines are the first lines of the circuit
-  pub lines_front_of : (c : Circuit) (input : ℕ → V) (k : ℕ) → k ≤ length c.gates → lines A (front k c) f input ≡ take (length c.inputs + k) (lines A c f input)
-  lines_front_of c input k h =
-      gates_front k (inputs_row A f input (length c.inputs)) c.gates h
-      ∙ ap (λ (n : ℕ). take (n + k) (lines A c f input)) (inputs_long A f input (length c.inputs))
-
--- its gates are noted
-pub complete_front : (first k : ℕ) (gates : List Gate) (readers : List LineSet) → Complete first gates readers → Complete first (take k gates) readers
-complete_front first k gates readers complete j h i d inside =
-    let within : j < length gates = grind (arith, common_steps, h) in
-    let here : j < k = grind (arith, common_steps, h) in
-    let same : operands_at (take k gates) j ≡ operands_at gates j = ap (λ (g : Gate). g.operands) (get_or-take k gates j no_gate here) in
-    subst (λ (os : List ℕ). has (get_or readers (get_or os i d) none_reads) (first + j) ≡ true) (sym same) (complete j within i d (omega (arith, inside, ap length same)))
-
--- and fit
-pub fit_front : {X : Type 0} (right : List X → X → Bool) (k : ℕ) (before xs : List X) → each_after right before xs ≡ true → each_after right before (take k xs) ≡ true
-fit_front right zero before xs e = refl
-fit_front right (suc k) before [] e = refl
-fit_front right (suc k) before (x ∷ xs) e =
-    let parts = and_parts (right before x) (each_after right (before ++ (x ∷ [])) xs) e in
-    rw (parts.0, fit_front right k (before ++ (x ∷ [])) xs parts.1) refl
+  -- after all gates, all lines that the effect can reach are in it
+  pub all_reached : (reached : LineSet) → Collected c f reached (length c.gates) → AllReached c f reached
+  all_reached reached so_far line below reaches = in_set reaches below
+    where
+      in_set : {l : ℕ} → Reaches c f l → l < line_count c → has reached l ≡ true
+      in_set own_line low = so_far.own (omega (arith, low, few_lines c rules))
+      in_set (through_gate k i inside h from) low = so_far.closed k i inside inside h (in_set from (omega (arith, earlier_operand k i inside h, low)))
 
 -- one test of a list by another that answers alike
 any_alike : {X : Type 0} (p r : X → Bool) (xs : List X) → All (λ (x : X). p x ≡ r x) xs → list_any p xs ≡ list_any r xs
 any_alike p r [] h = refl
 any_alike p r (x ∷ xs) h = rw (h 0 x (omega arith), any_alike p r xs (λ i d l. h (suc i) d (omega arith))) refl
 
--- The outputs of the front show just where the cube shows, if no output behind it can be seen.
+-- The outputs before a line show just where the cube shows, if none from that line on can be seen, and the lines before have the sets of the cube.
 module _ (K : Kind) (M : Pairs → Type 0) (lawful_kind : Lawful K M) (c : Circuit) (rules : lawful c ≡ true) (f : Option Fault) (q : Cube) (end n : ℕ) (unseen : UnseenFrom c f end)
-    (behind : (end ≤ n) ⊎ (line_count c ≤ n)) where
+    (behind : (end ≤ n) ⊎ (line_count c ≤ n)) (rows : List Pairs) (alike : (o : ℕ) → o < n → set_of rows o ≡ set_of (simulated K c f q) o) where
   abbrev all : List Pairs
   all = simulated K c f q
 
-  shown_alike : (i d : ℕ) → i < length c.outputs
-      → (ltb (get_or c.outputs i d) n && shows (set_of (take n all) (get_or c.outputs i d))) ≡ shows (set_of all (get_or c.outputs i d))
+  shown_alike : (i d : ℕ) → i < length c.outputs → (ltb (get_or c.outputs i d) n && shows (set_of rows (get_or c.outputs i d))) ≡ shows (set_of all (get_or c.outputs i d))
   shown_alike i d inside = elim (cases_lt (get_or c.outputs i d) n) [
-    | inl low ↦ rw (lt-ltb _ _ low, get_or-take n all (get_or c.outputs i d) (only false false) low) refl
+    | inl low ↦ rw (lt-ltb _ _ low, alike (get_or c.outputs i d) low) refl
     | inr high ↦
         let far : end ≤ get_or c.outputs i d = elim behind [
           | inl e ↦ omega (arith, e, high)
@@ -208,5 +208,25 @@ module _ (K : Kind) (M : Pairs → Type 0) (lawful_kind : Lawful K M) (c : Circu
         rw (le-ltb _ _ high, none) refl
   ]
 
-  pub shown_before : list_any (λ (o : ℕ). ltb o n && shows (set_of (take n all) o)) c.outputs ≡ detected K c f q
-  shown_before = any_alike (λ (o : ℕ). ltb o n && shows (set_of (take n all) o)) (λ (o : ℕ). shows (set_of all o)) c.outputs shown_alike
+  pub shown_before : list_any (λ (o : ℕ). ltb o n && shows (set_of rows o)) c.outputs ≡ detected K c f q
+  shown_before = any_alike (λ (o : ℕ). ltb o n && shows (set_of rows o)) (λ (o : ℕ). shows (set_of all o)) c.outputs shown_alike
+
+-- one test of a list by another that answers yes wherever the first does
+any_more : {X : Type 0} (p r : X → Bool) (xs : List X) → ((x : X) → p x ≡ true → r x ≡ true) → list_any p xs ≡ true → list_any r xs ≡ true
+any_more p r [] h e = e
+any_more p r (x ∷ xs) h e = grind (arith, common_steps, h x, any_more p r xs h)
+
+-- An output before a line shows only where the cube shows, if the lines before have the sets of the cube.
+pub shown_if_before : (K : Kind) (c : Circuit) (f : Option Fault) (q : Cube) (n : ℕ) (rows : List Pairs) → ((o : ℕ) → o < n → set_of rows o ≡ set_of (simulated K c f q) o)
+    → list_any (λ (o : ℕ). ltb o n && shows (set_of rows o)) c.outputs ≡ true → detected K c f q ≡ true
+shown_if_before K c f q n rows alike =
+    any_more (λ (o : ℕ). ltb o n && shows (set_of rows o)) (λ (o : ℕ). shows (set_of (simulated K c f q) o)) c.outputs (λ o yes.
+    let low : ltb o n ≡ true = grind (arith, common_steps) in
+    let shown : shows (set_of rows o) ≡ true = grind (arith, common_steps) in
+    ap shows (sym (alike o (ltb-true _ _ low))) ∙ shown)
+
+-- without a fault no output shows
+pub shows_nothing_without : (K : Kind) (M : Pairs → Type 0) (l : Lawful K M) (c : Circuit) (q : Cube) → detected K c None q ≡ false
+shows_nothing_without K M l c q =
+    list_any_none (λ (o : ℕ). shows (set_of (simulated K c None q) o)) c.outputs (λ i d inside.
+    same_level_does_not_show K M l c None q q.level (get_or c.outputs i d) (λ k e. refl) refl)

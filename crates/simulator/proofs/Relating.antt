@@ -1,5 +1,5 @@
 -- One relation between two readings of a circuit: what gates and pins keep, every line keeps.
-use Rattle.std.proofs.Common.{ℕ, zero, suc, ◌+◌, ◌<◌, Bool, true, false, cond, ◌&&◌, eqb, List, [], ◌∷◌, length, get_or, Some, None, fold, Option, sym, subst, arith}
+use Rattle.std.proofs.Common.{◌≡◌, ℕ, zero, suc, ◌+◌, ◌<◌, Bool, true, false, cond, ◌&&◌, eqb, List, [], ◌∷◌, length, get_or, Some, None, fold, Option, sym, subst, arith}
 use Rattle.std.specs.List.{AllZip}
 use Rattle.std.proofs.lemmas.Slice.Zip.{all_zipped_more, AllZip-long}
 use Rattle.values.specs.Values.{Gates, Values}
@@ -7,7 +7,7 @@ use Rattle.circuit.specs.declared.op.Op.{Op}
 use Rattle.circuit.specs.declared.op.Op.TheVariants.{And, Nand, Or, Nor, Xor, Xnor, Not, Buf}
 use Rattle.circuit.specs.Model.{Gate, Circuit}
 use Rattle.faults.specs.declared.fault.Fault.{Fault}
-use Rattle.simulator.specs.Lines.{at_pin, join, negated_by, joined, operands_from, gate_value, gates_after, inputs_row, lines}
+use Rattle.simulator.specs.Lines.{at_pin, join, negated_by, joined, line_value, operands_from, gate_value, gates_after, inputs_row, lines}
 
 -- what gates make of related values is related
 pub record KeepsGates {V W : Type 0} (G : Gates V) (H : Gates W) (R : V → W → Type 0) : Type 0 where
@@ -39,9 +39,9 @@ rows_at R (z ∷ xs) [] d e i r h = absurd r
 rows_at R (z ∷ xs) (w ∷ ys) d e zero r h = r.0
 rows_at R (z ∷ xs) (w ∷ ys) d e (suc i) r h = rows_at R xs ys d e i r.1 h
 
-module _ {V W : Type 0} (A : Values V) (B : Values W) (f g : Option Fault) (R : V → W → Type 0) (k : KeepsGates A.gates B.gates R)
-    (p : KeepsPins A B f g R) where
-  join_keeps : (op : Op) (x u : V) (y w : W) → R x y → R u w → R (join A.gates op x u) (join B.gates op y w)
+-- what gates make of related operands is related
+module _ {V W : Type 0} (G : Gates V) (H : Gates W) (R : V → W → Type 0) (k : KeepsGates G H R) where
+  join_keeps : (op : Op) (x u : V) (y w : W) → R x y → R u w → R (join G op x u) (join H op y w)
   join_keeps And = k.both
   join_keeps Nand = k.both
   join_keeps Or = k.either
@@ -51,7 +51,7 @@ module _ {V W : Type 0} (A : Values V) (B : Values W) (f g : Option Fault) (R : 
   join_keeps Not = λ x u y w r s. r
   join_keeps Buf = λ x u y w r s. r
 
-  negated_keeps : (op : Op) (x : V) (y : W) → R x y → R (negated_by A.gates op x) (negated_by B.gates op y)
+  negated_keeps : (op : Op) (x : V) (y : W) → R x y → R (negated_by G op x) (negated_by H op y)
   negated_keeps And = λ x y r. r
   negated_keeps Nand = k.negate
   negated_keeps Or = λ x y r. r
@@ -62,31 +62,43 @@ module _ {V W : Type 0} (A : Values V) (B : Values W) (f g : Option Fault) (R : 
   negated_keeps Buf = λ x y r. r
 
   folded_keeps : (op : Op) (x : V) (y : W) (xs : List V) (ys : List W) → R x y → AllZip R xs ys
-      → R (fold (join A.gates op) x xs) (fold (join B.gates op) y ys)
+      → R (fold (join G op) x xs) (fold (join H op) y ys)
   folded_keeps op x y [] [] r rs = r
   folded_keeps op x y [] (w ∷ ys) r rs = absurd rs
   folded_keeps op x y (u ∷ xs) [] r rs = absurd rs
-  folded_keeps op x y (u ∷ xs) (w ∷ ys) r rs = folded_keeps op (join A.gates op x u) (join B.gates op y w) xs ys (join_keeps op x u y w r rs.0) rs.1
+  folded_keeps op x y (u ∷ xs) (w ∷ ys) r rs = folded_keeps op (join G op x u) (join H op y w) xs ys (join_keeps op x u y w r rs.0) rs.1
 
-  joined_keeps : (op : Op) (xs : List V) (ys : List W) → AllZip R xs ys → R (joined A.gates op xs) (joined B.gates op ys)
+  joined_keeps : (op : Op) (xs : List V) (ys : List W) → AllZip R xs ys → R (joined G op xs) (joined H op ys)
   joined_keeps op [] [] r = k.known false
   joined_keeps op [] (w ∷ ys) r = absurd r
   joined_keeps op (u ∷ xs) [] r = absurd r
   joined_keeps op (u ∷ xs) (w ∷ ys) r = folded_keeps op u w xs ys r.0 r.1
 
+  -- the operands joined, and negated if the operator negates
+  pub worked_keeps : (op : Op) (xs : List V) (ys : List W) → AllZip R xs ys → R (negated_by G op (joined G op xs)) (negated_by H op (joined H op ys))
+  worked_keeps op xs ys r = negated_keeps op _ _ (joined_keeps op xs ys r)
+
+-- operands whose pins are related one by one, the first of which has that number
+pub operands_relate : {V W : Type 0} (A : Values V) (B : Values W) (f g : Option Fault) (R : V → W → Type 0) (xs : List V) (ys : List W) (line first : ℕ) (os : List ℕ)
+    → ((i pin : ℕ) → i < length os → pin ≡ first + i → R (at_pin A f line pin (line_value A xs (get_or os i 0))) (at_pin B g line pin (line_value B ys (get_or os i 0))))
+    → AllZip R (operands_from A f xs line first os) (operands_from B g ys line first os)
+operands_relate A B f g R xs ys line first [] h = tt
+operands_relate A B f g R xs ys line first (o ∷ os) h =
+    (h 0 first (omega arith) (omega arith), operands_relate A B f g R xs ys line (first + 1) os (λ i pin below is. h (suc i) pin (omega (arith, below)) (omega (arith, is))))
+
+-- readings whose gates and pins keep a relation
+module _ {V W : Type 0} (A : Values V) (B : Values W) (f g : Option Fault) (R : V → W → Type 0) (k : KeepsGates A.gates B.gates R)
+    (p : KeepsPins A B f g R) where
   operands_keep : (xs : List V) (ys : List W) (line pin : ℕ) (os : List ℕ) → AllZip R xs ys
       → AllZip R (operands_from A f xs line pin os) (operands_from B g ys line pin os)
-  operands_keep xs ys line pin [] r = tt
-  operands_keep xs ys line pin (o ∷ os) r =
-      (p line pin _ _ (rows_at R xs ys _ _ o r (k.known false)), operands_keep xs ys line (pin + 1) os r)
+  operands_keep xs ys line pin os r =
+      operands_relate A B f g R xs ys line pin os (λ i n below is. p line n _ _ (rows_at R xs ys _ _ (get_or os i 0) r (k.known false)))
 
   gate_keeps : (xs : List V) (ys : List W) (gate : Gate) → AllZip R xs ys → R (gate_value A f xs gate) (gate_value B g ys gate)
   gate_keeps xs ys gate r =
-      let left = operands_from A f xs (length xs) 1 gate.operands in
-      let right = operands_from B g ys (length xs) 1 gate.operands in
       subst (λ (n : ℕ). R (gate_value A f xs gate) (at_pin B g n 0 (negated_by B.gates gate.op (joined B.gates gate.op (operands_from B g ys n 1 gate.operands)))))
       (sym (AllZip-long R xs ys r))
-      (p (length xs) 0 _ _ (negated_keeps gate.op _ _ (joined_keeps gate.op left right (operands_keep xs ys (length xs) 1 gate.operands r))))
+      (p (length xs) 0 _ _ (worked_keeps A.gates B.gates R k gate.op _ _ (operands_keep xs ys (length xs) 1 gate.operands r)))
 
   gates_keep : (gs : List Gate) (xs : List V) (ys : List W) → AllZip R xs ys → AllZip R (gates_after A f xs gs) (gates_after B g ys gs)
   gates_keep [] xs ys r = r

@@ -1,6 +1,10 @@
--- What the rules of circuits say of an output.
-use Rattle.std.proofs.Common.{◌≡◌, ℕ, zero, suc, ◌<◌, true, ltb, List, [], ◌∷◌, ◌++◌, length, get_or, All, arith}
-use Rattle.std.proofs.lemmas.Bool.{and_parts, ltb-true}
+-- What the rules of circuits say of an output, and what a granted simulation says of the row.
+use Rattle.std.proofs.Common.{◌≡◌, ℕ, zero, suc, ◌<◌, ◌≤◌, Bool, true, false, cond, ltb, List, [], ◌∷◌, ◌++◌, length, get_or, All, Ok, Err, Result, refl, arith}
+use Rattle.std.proofs.lemmas.Bool.{and_parts, ltb-true, ltb-false}
+use Rattle.refusals.specs.declared.layers.FolderRefusal.{FolderRefusal}
+use Rattle.refusals.specs.declared.layers.FolderRefusal.TheVariants.{RowTooShort, InputMissing}
+use Rattle.faults.specs.Cubes.{Cube}
+use Rattle.simulator.specs.Simulation.{drives_beyond, simulation_allowed}
 use Rattle.circuit.specs.Model.{Circuit, line_count}
 use Rattle.circuit.specs.Lawful.{each_after, new_output, lawful}
 
@@ -14,3 +18,15 @@ pub outputs_below : (c : Circuit) → lawful c ≡ true → All (λ (o : ℕ). o
 outputs_below c e k d h =
     let outputs : each_after (new_output (line_count c)) [] c.outputs ≡ true = grind (arith, and_parts) in
     listed_below (line_count c) [] c.outputs k d h outputs
+
+-- a simulation is granted only in a row with a place for each line
+abbrev granted : Result (Unit {0}) FolderRefusal
+granted = Ok tt
+
+pub row_has_room : (c : Circuit) (q : Cube) (places : ℕ) → granted ≡ simulation_allowed c q places → line_count c ≤ places
+row_has_room c q places allowed = go (drives_beyond c q) (ltb places (line_count c)) refl allowed
+  where
+    go : (b d : Bool) → ltb places (line_count c) ≡ d → granted ≡ cond b (Err InputMissing) (cond d (Err RowTooShort) granted) → line_count c ≤ places
+    go true d e allowed = absurd (let clash = allowed in cc)
+    go false true e allowed = absurd (let clash = allowed in cc)
+    go false false e allowed = ltb-false _ _ e

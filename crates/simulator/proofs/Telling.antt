@@ -50,10 +50,10 @@ every_from p r h xs e = list_all-from_AllPass r xs (λ k d inside. h (get_or xs 
 
 module _ (K : Kind) (M : Pairs → Type 0) (l : Lawful K M) where
   -- a set of the family that has the pair
-  abbrev Among : Pair → Pairs → Type 0
+  abbrev pub Among : Pair → Pairs → Type 0
   Among p s = M s × (p ∈ s)
 
-  among : KeepsGates pairs.gates K.values.gates Among
+  pub among : KeepsGates pairs.gates K.values.gates Among
   among = record {
     known = λ b. (l.gates.known_in b, subst (λ (s : Pairs). pair b b ∈ s) (sym (l.gates.known_is b)) (only_has b b));
     negate = λ p s r. (l.gates.negate_in s r.0, l.gates.negate_keeps s p r.0 r.1);
@@ -102,7 +102,7 @@ module _ (K : Kind) (M : Pairs → Type 0) (l : Lawful K M) where
   open_among false = (l.gates.unknown_in, l.gates.unknown_00)
   open_among true = (l.gates.unknown_in, l.gates.unknown_11)
 
-  input_among : (v : ℕ) (q : Cube) → Fills v q → (i : ℕ) → Among (vector v i) (input_value K q i)
+  pub input_among : (v : ℕ) (q : Cube) → Fills v q → (i : ℕ) → Among (vector v i) (input_value K q i)
   input_among v q fills i = go (bit q.driven i) refl
     where
       go : (b : Bool) → bit q.driven i ≡ b → Among (vector v i) (cond b (K.values.gates.known (bit q.level i)) K.unknown)

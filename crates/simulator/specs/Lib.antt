@@ -1,11 +1,13 @@
 pub mod Lines
 pub mod Detection
+pub mod Logic
 pub mod Laws
 pub mod LineSets
 pub mod Cursors
 pub mod Fanouts
 pub mod Resimulation
 pub mod Reach
+pub mod Excitation
 pub mod Simulation
 pub mod Words
 pub mod Callers

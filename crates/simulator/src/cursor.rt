@@ -1,6 +1,6 @@
 // A place in a set of lines that is gone through in rising order.
 ghost use Rattle.std.specs.Prelude.{◌≡◌, ◌<◌, ◌≤◌};
-ghost use Rattle.simulator.specs.LineSets.{NextFrom, Includes};
+ghost use Rattle.simulator.specs.LineSets.{NextFrom, Includes, Joined};
 ghost use Rattle.simulator.specs.Cursors.{Copies, Follows, CopiesNext};
 
 use crate::line_set::{LineSet, lowest_from};
@@ -55,6 +55,7 @@ impl Cursor {
         requires copy { Copies self.old lines.old line }
         ensures these { Includes lines.new lines.old }
         ensures those { Includes lines.new other.now }
+        ensures words { Joined lines.old other.now lines.new }
         ensures copy { Copies self.new lines.new line }
     {
         lines.add_all(other);

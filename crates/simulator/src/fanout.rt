@@ -1,21 +1,45 @@
 // Which gates read each line of a circuit.
 ghost use Rattle.std.specs.Prelude.{◌≡◌, ◌+◌, ◌<◌, ◌≤◌, true, ℕ, List, [], map, length, All};
 ghost use Rattle.circuit.specs.Model.{Gate as GateModel, line_count};
-ghost use Rattle.circuit.specs.Lawful.{gate_fits, each_after};
+ghost use Rattle.circuit.specs.Lawful.{gate_fits, each_after, lawful};
 ghost use Rattle.circuit.specs.Tables.{gate_model};
+ghost use Rattle.simulator.specs.LineSets.{IsEmpty};
 ghost use Rattle.simulator.specs.Fanouts.{Keeps, Noted, Complete};
 
 use crate::line_set::LineSet;
 use circuit::{Circuit, Gate, MOST_LINES};
 
-// A circuit, and for each of its lines the gates that read it: made once for all tries of a visit. (An array and no `Vec`, since
-// a visit takes no memory.)
+// Room for a fan-out: a set for each line. (An array and no `Vec`, since a visit takes no memory; and apart from the fan-out, which
+// would be copied where it is handed on.)
+#[derive(Drop)]
+pub struct FanoutTable {
+    readers: [LineSet; MOST_LINES],
+}
+
+impl FanoutTable {
+    // A table of empty sets.
+    pub fn new() -> FanoutTable
+        ensures { All IsEmpty result.readers }
+    {
+        FanoutTable {
+            readers: [LineSet::empty(); MOST_LINES],
+        }
+    }
+}
+
+// A circuit, and for each of its lines the gates that read it: made once for all tries of a visit.
 #[derive(Drop)]
 pub struct Fanout<'a> {
     pub circuit: &'a Circuit,
-    pub(crate) readers: [LineSet; MOST_LINES],
-    ghost complete: { Complete (length circuit.now.inputs) circuit.now.gates readers },
-    ghost few: { line_count circuit.now ≤ 512 },
+    // the circuit's, asked for once
+    pub(crate) inputs: usize,
+    pub(crate) gates: &'a [Gate],
+    pub(crate) readers: &'a [LineSet],
+    ghost inputs_are: { inputs ≡ length circuit.now.inputs },
+    ghost gates_are: { map gate_model gates.now ≡ circuit.now.gates },
+    ghost rules: { lawful circuit.now ≡ true },
+    ghost complete: { Complete (length circuit.now.inputs) circuit.now.gates readers.now },
+    ghost long: { line_count circuit.now ≤ length readers.now },
 }
 
 // Notes the gate of a line at each line that it reads.
@@ -43,12 +67,19 @@ fn note_gates(inputs: usize, gates: &[Gate], readers: &mut [LineSet])
 }
 
 impl<'a> Fanout<'a> {
-    // The gates that read each line of the circuit.
-    pub fn new(circuit: &'a Circuit) -> Fanout<'a>
+    // The gates that read each line of the circuit, noted in a table. (In a table that was lent before other gates may be noted too.)
+    pub fn new(circuit: &'a Circuit, table: &'a mut FanoutTable) -> Fanout<'a>
         ensures { result.circuit.now ≡ circuit.now }
     {
-        let mut readers = [LineSet::empty(); MOST_LINES];
-        note_gates(circuit.input_count(), circuit.gates(), &mut readers);
-        Fanout { circuit, readers }
+        let inputs = circuit.input_count();
+        let gates = circuit.gates();
+        let readers = &mut table.readers;
+        note_gates(inputs, gates, readers);
+        Fanout {
+            circuit,
+            inputs,
+            gates,
+            readers,
+        }
     }
 }

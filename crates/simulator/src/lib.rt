@@ -2,6 +2,7 @@
 #![tactic(auto)]
 
 mod cursor;
+mod excitation;
 pub mod fanout;
 mod gates;
 mod line_set;
@@ -11,11 +12,12 @@ pub mod simulation;
 pub mod socket;
 pub mod verdict;
 
-pub use fanout::Fanout;
+pub use fanout::{Fanout, FanoutTable};
 pub use reach::reach_end;
 pub use resimulation::{reshows, resimulate};
 pub use simulation::{
-    allow_row, allow_simulation, drives_beyond, simulate, simulate_fault, simulation_tells,
+    allow_row, allow_simulation, drives_beyond, levels_are_logic, simulate, simulate_fault,
+    simulation_tells,
 };
 pub use socket::{Plug, Socket};
 pub use verdict::Verdict;

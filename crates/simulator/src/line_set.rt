@@ -1,6 +1,6 @@
 // A set of lines of a circuit.
 ghost use Rattle.std.specs.Prelude.{◌≡◌, ◌<◌, true};
-ghost use Rattle.simulator.specs.LineSets.{has, LowestFrom, Includes, Joined};
+ghost use Rattle.simulator.specs.LineSets.{has, IsEmpty, LowestFrom, Includes, OnlyMore, Joined};
 
 // A bit for each line. (Words and no list of numbers: a set is joined to another at each line that changes.)
 #[derive(Clone, Copy)]
@@ -23,7 +23,9 @@ pub(crate) fn lowest_from(word: u64, from: usize) -> Option<usize>
 
 impl LineSet {
     // No line.
-    pub fn empty() -> LineSet {
+    pub fn empty() -> LineSet
+        ensures { IsEmpty result }
+    {
         LineSet { words: [0; 8] }
     }
 
@@ -40,6 +42,7 @@ impl LineSet {
         requires { line < 512 }
         ensures more { Includes result self }
         ensures line { has result line ≡ true }
+        ensures only { OnlyMore self line result }
     {
         let LineSet { mut words } = self;
         words[line / 64] |= 1 << (line % 64);

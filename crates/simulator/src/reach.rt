@@ -1,9 +1,8 @@
 // Where the effect of a fault can be seen.
-ghost use Rattle.std.specs.Prelude.{◌≡◌, ◌<◌, ◌≤◌, Some, All, length};
+ghost use Rattle.std.specs.Prelude.{◌≡◌, ◌<◌, All};
 ghost use Rattle.std.specs.List.{list_any};
-ghost use Rattle.circuit.specs.Model.{line_count};
 ghost use Rattle.simulator.specs.LineSets.{has};
-ghost use Rattle.simulator.specs.Reach.{Unreached, UnseenFrom};
+ghost use Rattle.simulator.specs.Reach.{AllReached, OnlyReached, ReachEnd};
 
 use crate::line_set::LineSet;
 use circuit::{Circuit, MOST_LINES};
@@ -17,9 +16,11 @@ fn some_reached(lines: &[usize], reached: &LineSet) -> bool
     lines.iter().any(|line| reached.has(*line))
 }
 
-// The lines that the fault can give another level: its own, and those of the gates that read such a line.
+// The lines that the effect of the fault can reach: its own, and those of the gates that read such a line. No other line can have
+// another level with the fault than without it.
 fn reached_lines(circuit: &Circuit, fault: Fault) -> LineSet
-    ensures { Unreached circuit.now fault (line_count circuit.now) result }
+    ensures all { AllReached circuit.now fault result }
+    ensures only { OnlyReached circuit.now fault result }
 {
     let mut reached = LineSet::empty();
     if fault.line() < MOST_LINES {
@@ -34,9 +35,9 @@ fn reached_lines(circuit: &Circuit, fault: Fault) -> LineSet
     reached
 }
 
-// The line after the last output that the fault can give another level.
+// The line after the last output that the effect of the fault can reach, or 0 if it reaches none.
 pub fn reach_end(circuit: &Circuit, fault: Fault) -> usize
-    ensures { UnseenFrom circuit.now (Some fault) result }
+    ensures { ReachEnd circuit.now fault result }
 {
     let reached = reached_lines(circuit, fault);
     let mut end = 0;

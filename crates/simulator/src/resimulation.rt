@@ -1,28 +1,24 @@
 // Simulation of a cube in a row that holds the values of another cube: a gate is worked out again only if a line that it reads has
 // another value now. (Simulators of circuits call this selective trace.)
-ghost use Rattle.std.specs.Prelude.{◌≡◌, ◌+◌, ◌≤◌, ◌<◌, ◌&&◌, true, false, ℕ, Bool, List, [], map, length, nat_lt, Ok, ◌⊎◌};
+ghost use Rattle.std.specs.Prelude.{◌≡◌, ◌≤◌, ◌<◌, ◌&&◌, ◌⊎◌, Bool, true, map, length, drop, nat_lt, Ok};
 ghost use Rattle.std.specs.List.{list_any};
 ghost use Rattle.std.specs.Result.{result_map_both};
-ghost use Rattle.values.specs.Pairs.{Pairs, shows};
-ghost use Rattle.circuit.specs.Model.{Gate as GateModel};
-ghost use Rattle.circuit.specs.Lawful.{gate_fits, each_after};
-ghost use Rattle.circuit.specs.Tables.{gate_model};
+ghost use Rattle.values.specs.Pairs.{shows};
+ghost use Rattle.circuit.specs.Model.{line_count};
 ghost use Rattle.simulator.specs.Callers.{RowKept};
 ghost use Rattle.simulator.specs.Simulation.{simulation_allowed, Simulates};
-ghost use Rattle.simulator.specs.Detection.{set_of, detected};
-ghost use Rattle.simulator.specs.Fanouts.{Complete};
+ghost use Rattle.simulator.specs.Detection.{set_of, AreLines, detected};
 ghost use Rattle.simulator.specs.Reach.{UnseenFrom};
-ghost use Rattle.simulator.specs.Cursors.{Copies};
-ghost use Rattle.simulator.specs.Resimulation.{Holds, changed_inputs, NextChanged, Turns, Redrives, Resettles};
+ghost use Rattle.simulator.specs.Resimulation.{Holds, changed_inputs, NextChanged, Writes, Redrives, Resettles};
 
 use crate::cursor::Cursor;
+use crate::excitation::is_excited;
 use crate::fanout::Fanout;
 use crate::gates::{at_pin, gate_value};
 use crate::line_set::{LineSet, lowest_from};
-use crate::simulation::{allow_simulation, input_value, judge};
+use crate::simulation::{allow_simulation, input_value, judge, value_at};
 use crate::socket::Socket;
 use crate::verdict::Verdict;
-use circuit::Gate;
 use faults::{Cube, Fault};
 use refusals::FolderRefusal;
 use values::kind::ValueKind;
@@ -46,98 +42,78 @@ fn next_changed(changed: u64, from: usize, inputs: usize) -> Option<usize>
     lowest_from(changed, from).filter(|input| *input < inputs)
 }
 
-// Writes the value of a line. If it is another one than before, those that read the line wait to be worked out too.
+// Writes the value of a line. Whether it is another one than before.
 #[inline(always)]
-fn turn<V: ValueKind>(
-    line: usize,
-    value: V,
-    readers: &LineSet,
-    waiting: &mut LineSet,
-    cursor: &mut Cursor,
-    at: usize,
-    row: &mut [V],
-)
-    requires line { line < length row.old }
-    requires few { at < 512 }
-    requires copy { Copies cursor.old waiting.old at }
-    ensures turns { Turns V.ValueKind.meaning line value readers.now waiting.old row.old row.new waiting.new }
-    ensures copy { Copies cursor.new waiting.new at }
+fn write<V: ValueKind>(line: usize, value: V, row: &mut [V]) -> bool
+    requires { line < length row.old }
+    ensures { Writes V.ValueKind.meaning line value row.old row.new result }
 {
-    if !value.equals(row[line]) {
-        row[line] = value;
-        cursor.add_all(waiting, readers, at);
+    if value.equals(row[line]) {
+        return false;
     }
+    row[line] = value;
+    true
 }
 
-// Works out the lines of the changed inputs: the gates that wait afterwards, and a cursor at the first gate's word.
+// Works out the lines of the changed inputs, and gives gates that wait to be worked out then, among them each that reads a line whose
+// value is another one than before.
+#[inline(always)]
 fn redrive<V: ValueKind>(
+    fanout: &Fanout<'_>,
     before: Cube,
     cube: Cube,
     fault: Option<Fault>,
-    inputs: usize,
-    readers: &[LineSet],
     row: &mut [V],
-) -> (LineSet, Cursor)
-    requires few { inputs ≤ 64 }
-    requires room { inputs ≤ length row.old }
-    requires readers { length row.old ≤ length readers.now }
-    ensures redrives { Redrives V.ValueKind.kind V.ValueKind.meaning before cube fault inputs readers.now row.old row.new result.0 }
-    ensures copy { Copies result.1 result.0 inputs }
+) -> LineSet
+    requires { length row.old ≡ line_count fanout.now.circuit.now }
+    ensures { Redrives V.ValueKind.kind V.ValueKind.meaning fanout.now.circuit.now fault before cube row.old row.new result }
 {
+    let readers = fanout.readers;
+    let inputs = fanout.inputs;
     let changed = changed_inputs(before, cube);
     let mut waiting = LineSet::empty();
-    let mut cursor = Cursor::at_line(&waiting, inputs);
     let mut from = 0;
     while let Some(input) = next_changed(changed, from, inputs) {
         let value = at_pin(fault, input, 0, input_value(cube, input));
-        turn(
-            input,
-            value,
-            &readers[input],
-            &mut waiting,
-            &mut cursor,
-            inputs,
-            row,
-        );
+        if write(input, value, row) {
+            waiting.add_all(&readers[input]);
+        }
         from = input + 1;
     }
-    (waiting, cursor)
+    waiting
 }
 
-// Works out the lines of the gates that wait, and of those that wait then.
+// Works out the lines of the gates that wait, and of those that wait then, from one line to another.
 fn resettle<V: ValueKind>(
-    inputs: usize,
-    gates: &[Gate],
+    fanout: &Fanout<'_>,
     fault: Option<Fault>,
-    readers: &[LineSet],
-    waiting: LineSet,
-    cursor: Cursor,
+    waiting: &mut LineSet,
+    from: usize,
+    end: usize,
     row: &mut [V],
 )
-    requires fit { each_after (λ (before : List GateModel). gate_fits (inputs + length before)) [] (map gate_model gates.now) ≡ true }
-    requires room { inputs + length gates.now ≡ length row.old }
-    requires few { length row.old ≤ 512 }
-    requires readers { length row.old ≤ length readers.now }
-    requires copy { Copies cursor waiting inputs }
-    ensures { Resettles V.ValueKind.kind V.ValueKind.meaning fault inputs (map gate_model gates.now) readers.now waiting row.old row.new }
+    requires gates { length fanout.now.circuit.now.inputs ≤ from }
+    requires room { length row.old ≡ line_count fanout.now.circuit.now }
+    requires within { end ≤ length row.old }
+    ensures { Resettles V.ValueKind.kind V.ValueKind.meaning fanout.now.circuit.now fault from end waiting.old waiting.new row.old row.new }
 {
-    let mut waiting = waiting;
-    let mut cursor = cursor;
-    let mut line = inputs;
-    'lines: while let Some(next) = cursor.next_from(&waiting, line, row.len()) {
+    if from >= end {
+        return;
+    }
+    let readers = fanout.readers;
+    let inputs = fanout.inputs;
+    let gates = fanout.gates;
+    let gates = &gates[..end - inputs];
+    let mut cursor = Cursor::at_line(waiting, from);
+    let mut line = from;
+    'lines: while let Some(next) = cursor.next_from(waiting, line, end) {
         let Some(gate) = gates.get(next - inputs) else {
             break;
         };
         let value = gate_value(gate, fault, &row[..next]);
-        turn(
-            next,
-            value,
-            &readers[next],
-            &mut waiting,
-            &mut cursor,
-            next,
-            row,
-        );
+        if write(next, value, row) {
+            cursor.add_all(waiting, &readers[next], next);
+        }
         line = next + 1;
     }
 }
@@ -155,57 +131,37 @@ pub fn resimulate<V: ValueKind>(
     ensures simulates { Holds V.ValueKind.kind V.ValueKind.meaning fanout.now.circuit.now socket.now.fault before row.old → Simulates V.ValueKind.kind V.ValueKind.meaning fanout.now.circuit.now socket.now.fault cube row.old row.new result }
     ensures allowed { result_map_both (λ _. tt) (λ e. e) result ≡ simulation_allowed fanout.now.circuit.now cube (length row.old) }
     ensures kept { RowKept result row.old row.new }
+    ensures rest { drop (line_count fanout.now.circuit.now) row.new ≡ drop (line_count fanout.now.circuit.now) row.old }
 {
     let circuit = fanout.circuit;
     allow_simulation(circuit, cube, row.len())?;
-    let gates = circuit.gates();
-    let inputs = circuit.input_count();
     let row = &mut row[..circuit.line_count()];
-    let (waiting, cursor) = redrive(before, cube, socket.fault, inputs, &fanout.readers, row);
+    let mut waiting = redrive(fanout, before, cube, socket.fault, row);
     resettle(
-        inputs,
-        gates,
+        fanout,
         socket.fault,
-        &fanout.readers,
-        waiting,
-        cursor,
+        &mut waiting,
+        fanout.inputs,
+        row.len(),
         row,
     );
     Ok(judge(circuit.outputs(), row))
 }
 
-// Whether the output shows, if its line is in the row.
-fn shows_at<V: ValueKind>(row: &[V], output: usize) -> bool
-    ensures { result ≡ (nat_lt output (length row.now) && shows (set_of (map V.ValueKind.meaning row.now) output)) }
+// Whether some output before that line shows.
+fn some_shows_before<V: ValueKind>(outputs: &[usize], end: usize, row: &[V]) -> bool
+    requires { AreLines outputs.now row.now }
+    ensures { result ≡ list_any (λ output. nat_lt output end && shows (set_of (map V.ValueKind.meaning row.now) output)) outputs.now }
 {
-    match row.get(output) {
-        Some(value) => value.shows(),
-        None => false,
-    }
-}
-
-// Whether some output shows whose line is in the row.
-fn some_shows_in<V: ValueKind>(outputs: &[usize], row: &[V]) -> bool
-    ensures { result ≡ list_any (λ output. nat_lt output (length row.now) && shows (set_of (map V.ValueKind.meaning row.now) output)) outputs.now }
-{
-    outputs.iter().any(|output| shows_at(row, *output))
-}
-
-// How many of the gates have a line before that one.
-fn gates_before(inputs: usize, gates: usize, line: usize) -> usize
-    ensures few { result ≤ gates }
-    ensures all { (line ≤ inputs + result) ⊎ (result ≡ gates) }
-{
-    match line.checked_sub(inputs) {
-        Some(count) if count < gates => count,
-        Some(_) => gates,
-        None => 0,
-    }
+    outputs
+        .iter()
+        .any(|output| *output < end && value_at(row, *output).shows())
 }
 
 // Whether the kind shows the cube to detect the fault that is in the socket, in a row that begins with the values of the circuit's
-// lines under the cube `before`. No output from the line `end` on may be seen (`reach_end` gives such a line), and no line from there
-// on is worked out. So the row holds the values of no cube afterwards. Of another row or end it is left open what is answered.
+// lines under the cube `before`. No output from the line `end` on may be seen (`reach_end` gives such a line). By another end a yes is
+// right too, but not a no. Of another row it is left open what is answered. To save time, no line from the end on is worked out, and
+// none behind the fault's line where the fault is not excited. So the row need not hold the values of any cube afterwards.
 pub fn reshows<V: ValueKind>(
     fanout: &Fanout<'_>,
     before: Cube,
@@ -214,26 +170,34 @@ pub fn reshows<V: ValueKind>(
     end: usize,
     row: &mut [V],
 ) -> Result<bool, FolderRefusal>
-    ensures detected { (b : Bool) → result ≡ Ok b → Holds V.ValueKind.kind V.ValueKind.meaning fanout.now.circuit.now socket.now.fault before row.old → UnseenFrom fanout.now.circuit.now socket.now.fault end → b ≡ detected V.ValueKind.kind fanout.now.circuit.now socket.now.fault cube }
+    ensures detected { (b : Bool) → result ≡ Ok b → Holds V.ValueKind.kind V.ValueKind.meaning fanout.now.circuit.now socket.now.fault before row.old → ((b ≡ true) ⊎ UnseenFrom fanout.now.circuit.now socket.now.fault end) → b ≡ detected V.ValueKind.kind fanout.now.circuit.now socket.now.fault cube }
     ensures allowed { result_map_both (λ _. tt) (λ e. e) result ≡ simulation_allowed fanout.now.circuit.now cube (length row.old) }
     ensures kept { RowKept result row.old row.new }
+    ensures rest { drop (line_count fanout.now.circuit.now) row.new ≡ drop (line_count fanout.now.circuit.now) row.old }
 {
     let circuit = fanout.circuit;
     allow_simulation(circuit, cube, row.len())?;
-    let inputs = circuit.input_count();
-    let gates = circuit.gates();
-    let count = gates_before(inputs, gates.len(), end);
-    let gates = &gates[..count];
-    let row = &mut row[..inputs + count];
-    let (waiting, cursor) = redrive(before, cube, socket.fault, inputs, &fanout.readers, row);
+    let row = &mut row[..circuit.line_count()];
+    let Some(fault) = socket.fault else {
+        return Ok(false);
+    };
+    if fault.line() >= row.len() {
+        return Ok(false);
+    }
+    let mut waiting = redrive(fanout, before, cube, Some(fault), row);
+    let behind = fanout.inputs.max(fault.line() + 1);
     resettle(
-        inputs,
-        gates,
-        socket.fault,
-        &fanout.readers,
-        waiting,
-        cursor,
+        fanout,
+        Some(fault),
+        &mut waiting,
+        fanout.inputs,
+        behind,
         row,
     );
-    Ok(some_shows_in(circuit.outputs(), row))
+    if !is_excited(circuit, fault, row) {
+        return Ok(false);
+    }
+    let end = end.min(row.len());
+    resettle(fanout, Some(fault), &mut waiting, behind, end, row);
+    Ok(some_shows_before(circuit.outputs(), end, row))
 }

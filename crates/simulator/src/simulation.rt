@@ -7,6 +7,7 @@ ghost use Rattle.simulator.specs.Lines.{inputs_row, gate_value, gates_after};
 ghost use Rattle.simulator.specs.Detection.{input_value, set_of, AreLines, some_shows, all_still, judged};
 ghost use Rattle.simulator.specs.Simulation.{drives_beyond, DrivesBeyond, row_allowed, simulation_allowed, Simulates};
 ghost use Rattle.simulator.specs.Laws.{Telling};
+ghost use Rattle.simulator.specs.Logic.{LevelsAreLogic};
 
 use crate::gates::{at_pin, gate_value};
 use crate::socket::Socket;
@@ -46,7 +47,7 @@ fn settle<V: ValueKind>(inputs: usize, gates: &[Gate], fault: Option<Fault>, row
 }
 
 // The value of a line of the row.
-fn value_at<V: ValueKind>(row: &[V], line: usize) -> V
+pub(crate) fn value_at<V: ValueKind>(row: &[V], line: usize) -> V
     requires { line < length row.now }
     ensures { V.ValueKind.meaning result ≡ set_of (map V.ValueKind.meaning row.now) line }
 {
@@ -156,4 +157,10 @@ pub fn simulate_fault<V: ValueKind>(
 // below a still cube no vector detects; and a vector that detects is a cube that shows.
 pub fn simulation_tells<V: ValueKind>()
     ensures { Telling V.ValueKind.kind }
+{}
+
+// Runs nothing: its contract is a theorem that the crate owes. In the levels that the definitions give the lines of a circuit, step by
+// step, each line has what its gate makes of the lines that it reads; and no other levels are so.
+pub fn levels_are_logic()
+    ensures { LevelsAreLogic }
 {}

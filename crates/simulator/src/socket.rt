@@ -1,4 +1,4 @@
-// The socket holds the fault that a simulation reads. A fault is in it only while a plug stands.
+// The socket holds the fault that a simulation reads. A fault comes into it by a plug alone, and is gone when the plug goes.
 ghost use Rattle.std.specs.Prelude.{◌≡◌, Some, None};
 
 use faults::Fault;

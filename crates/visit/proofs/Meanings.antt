@@ -124,6 +124,6 @@ module _ (K : Kind) (M : Pairs → Type 0) (l : Lawful K M) (c : Circuit) (f : F
 
       go : (a : Bool) (b : Option Cube) → end.spent ≡ a → end.best ≡ b → Means K c f (answered a b end.tries)
       go true None e g = tt
-      go true (Some q) e g = shown_test q (good (Some q) g).0
+      go true (Some q) e g = (shown_test q (good (Some q) g).0, judge_shows q (good (Some q) g).0)
       go false None e g = λ v. none e g v (detects c (Some f) v) refl
       go false (Some q) e g = (shown_test q (good (Some q) g).0, λ t w shown. best_at_most end.best q (ones t.driven) g (finds budget e t w shown), judge_shows q (good (Some q) g).0)

@@ -29,4 +29,4 @@ abbrev pub Means : Kind → Circuit → Fault → Answer → Type 0
 Means K c f (Fewest q tries) = Test c f q × Unbeaten K c f q × Shown K c f q
 Means K c f (Redundant tries) = Undetectable c f
 Means K c f (Spent None tries) = Unit {0}
-Means K c f (Spent (Some q) tries) = Test c f q
+Means K c f (Spent (Some q) tries) = Test c f q × Shown K c f q

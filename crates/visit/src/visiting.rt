@@ -1,12 +1,12 @@
 // The visit: depth first, inputs in rising order, 0 before 1.
-ghost use Rattle.std.specs.Prelude.{◌≡◌, ◌+◌, ◌≤◌, false, length, take, if◌then◌else◌};
+ghost use Rattle.std.specs.Prelude.{◌≡◌, ◌+◌, ◌≤◌, ◌&&◌, false, length, nat_lt, take, if◌then◌else◌};
 ghost use Rattle.values.specs.Kind.{Kind};
 ghost use Rattle.faults.specs.Cubes.{nothing_driven};
 ghost use Rattle.simulator.specs.Simulation.{drives_beyond};
 ghost use Rattle.simulator.specs.Callers.{HasRoom, RowKept, SocketEmptied};
 ghost use Rattle.simulator.specs.Detection.{detected};
 ghost use Rattle.simulator.specs.Resimulation.{Holds};
-ghost use Rattle.visit.specs.Visiting.{drive};
+ghost use Rattle.visit.specs.Visiting.{drive, fewer};
 ghost use Rattle.visit.specs.Settings.{verdict_in, input_count, below_branch, branch_met, HoldsUnder};
 ghost use Rattle.visit.specs.Visits.{going_on, left, Visits};
 
@@ -17,7 +17,9 @@ use crate::setting::Setting;
 use circuit::{Circuit, MOST_LINES};
 use faults::{Cube, Fault};
 use refusals::FolderRefusal;
-use simulator::{Fanout, Socket, Verdict, allow_row, reach_end, reshows, resimulate, simulate};
+use simulator::{
+    Fanout, FanoutTable, Socket, Verdict, allow_row, reach_end, reshows, resimulate, simulate,
+};
 use values::kind::ValueKind;
 
 impl Branch {
@@ -119,7 +121,8 @@ impl Setting<'_> {
     // Whether a cube below one would drive fewer inputs than the best: if not, nothing below it is met.
     fn leads_on(&self, branch: &Branch, progress: &Progress) -> bool
         requires inside { branch.now.next ≤ input_count self.now }
-        ensures { (K : Kind) → result ≡ false → below_branch K self.now branch.now (going_on progress.now) ≡ going_on progress.now }
+        ensures value { result ≡ (nat_lt branch.now.next (input_count self.now) && fewer (drive branch.now.cube branch.now.next 0) progress.now.best) }
+        ensures passed_over { (K : Kind) → result ≡ false → below_branch K self.now branch.now (going_on progress.now) ≡ going_on progress.now }
     {
         branch.next < self.fanout.circuit.input_count()
             && progress.is_beaten_by(branch.driving(branch.next, false).cube)
@@ -175,8 +178,9 @@ pub fn visit<V: ValueKind>(
     let plug = socket.plug(fault);
     let whole = Branch::whole();
     simulate(circuit, whole.cube, plug.socket(), row).unwrap();
+    let mut table = FanoutTable::new();
     let setting = Setting {
-        fanout: &Fanout::new(circuit),
+        fanout: &Fanout::new(circuit, &mut table),
         socket: plug.socket(),
         end: reach_end(circuit, fault),
         budget,

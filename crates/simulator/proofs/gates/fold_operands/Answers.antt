@@ -5,7 +5,7 @@ use Rattle.values.specs.Values.{Values}
 use Rattle.circuit.specs.declared.op.Op.{Op}
 use Rattle.faults.specs.declared.fault.Fault.{Fault}
 use Rattle.simulator.specs.Lines.{at_pin, line_value, join, joined, operands_from}
-use Rattle.simulator.proofs.Resimulating.{below_line}
+use Rattle.simulator.proofs.Lines.{below_line}
 use Rattle.simulator.proofs.gates.fold_operands.Goals as goal
 
 -- the first operand, and the others joined on
