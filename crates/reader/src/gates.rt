@@ -92,11 +92,12 @@ impl<'a> Parser<'a> {
     }
 
     // The gate of a gate line. Two brackets are open: the line's and its own.
-    pub fn line_gate(&mut self) -> Result<usize, Refusal>
+    pub fn line_gate(&mut self) -> Result<(), Refusal>
         ensures leads { (name : List ℕ) → Leads (at (operator name []) self.old) result (λ _. at (gate_line_close name) self.new) }
         ensures fewer { AddsNone result self.old self.new }
     {
-        self.gate(MOST_BRACKETS - 2)
+        self.gate(MOST_BRACKETS - 2)?;
+        Ok(())
     }
 
     // A gate, from its operator to its closing bracket: the number of its line.
