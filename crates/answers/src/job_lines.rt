@@ -116,13 +116,10 @@ fn expect_replies(
         writeln!(text, "{job}")?;
     }
     let opening = open(heap, text.as_bytes())?;
-    let Opening::Session {
-        mut session,
-        mut place,
-    } = opening
-    else {
+    let Opening::Session { mut session, rest } = opening else {
         panic!(rt; "refused: {circuit}")
     };
+    let mut place = rest.place;
     assert_eq!(rt; place, circuit.len(), "{circuit}");
     for Line(job, expected) in lines {
         let answer = session.answer(heap, text.as_bytes(), place)?;

@@ -1,7 +1,8 @@
 // The program `folders`: a circuit text and job lines from standard input, a reply to each on standard output.
 #![tactic(auto)]
 
-use session::{Answer, Opening, Session, open};
+use circuit::Circuit;
+use session::{Answer, Opening, Session, open_in};
 use std::io::Read;
 
 // Writes the replies to the job lines of the text from a place on. A line takes at least one byte, so there are at most as
@@ -27,9 +28,10 @@ fn run(rt: &HostRuntime) -> anyhow::Result<()> {
     let heap = rt.alloc();
     let mut text = Vec::new(heap);
     rt.stdin().read_to_end(&mut text)?;
-    let opening = open(heap, &text)?;
+    let circuit = Circuit::blank(heap)?;
+    let opening = open_in(heap, circuit, &text)?;
     match opening {
-        Opening::Session { mut session, place } => answer_jobs(rt, &mut session, &text, place),
+        Opening::Session { mut session, rest } => answer_jobs(rt, &mut session, &text, rest.place),
         Opening::Refused { reply } => {
             print!(rt; "{reply}")?;
             Ok(())

@@ -1,5 +1,5 @@
 -- What a text opens: a session of its circuit, or the reply to a circuit that is refused.
-use Rattle.std.specs.Prelude.{◌≡◌, ℕ, List, [], Some, None, Ok, Err, Option, Result, MatchResult, ⊤}
+use Rattle.std.specs.Prelude.{◌≡◌, ℕ, List, [], drop, Some, None, Ok, Err, Option, Result, MatchResult, ⊤}
 use Rattle.refusals.specs.declared.cause.Cause.{Cause}
 use Rattle.refusals.specs.declared.cause.Refusal.{Refusal}
 use Rattle.refusals.specs.declared.cause.Refusal.TheVariants.{Memory}
@@ -38,16 +38,17 @@ opened text = outcome_opened (reading text)
 
 -- what the code's opening stands for
 abbrev pub opening_model : Opening → Opened
-opening_model (opening.Session session place) = Begun session place
+opening_model (opening.Session session rest) = Begun session rest.place
 opening_model (opening.Refused reply) = Written (reply_text reply)
 
 -- the opening of the definition, or want of memory
 abbrev pub Opens : List ℕ → Result Opening Refusal → Type 0
 Opens text r = MatchResult r (λ o. opened text ≡ Some (opening_model o)) (λ e. e ≡ Memory)
 
--- The session's circuit is the one that the text describes, and its job lines begin where that description ends. A text that is
--- refused describes none.
+-- The session's circuit is the one that the text describes, and the rest, its job lines, is the text from where that description
+-- ends. A text that is refused describes none.
 abbrev pub OpensDescribed : List ℕ → Result Opening Refusal → Type 0
-OpensDescribed text (Ok (opening.Session session place)) = Describes text session.folder.circuit place
+OpensDescribed text (Ok (opening.Session session rest)) =
+    Describes text session.folder.circuit rest.place × (rest.bytes.now ≡ drop rest.place text)
 OpensDescribed text (Ok (opening.Refused reply)) = DescribesNone text
 OpensDescribed text (Err e) = ⊤

@@ -8,6 +8,6 @@ pub mod reply;
 pub mod session;
 mod work;
 
-pub use opening::{Opening, open};
+pub use opening::{Opening, open, open_in};
 pub use reply::Answer;
 pub use session::Session;

@@ -1,5 +1,5 @@
 // Which gates read each line of a circuit.
-ghost use Rattle.std.specs.Prelude.{◌≡◌, ◌+◌, ◌<◌, ◌≤◌, true, ℕ, List, [], map, length, All};
+ghost use Rattle.std.specs.Prelude.{◌≡◌, ◌+◌, ◌<◌, ◌≤◌, true, ℕ, List, [], map, length, All, MatchOption};
 ghost use Rattle.circuit.specs.Model.{Gate as GateModel, line_count};
 ghost use Rattle.circuit.specs.Lawful.{gate_fits, each_after, lawful};
 ghost use Rattle.circuit.specs.Tables.{gate_model};
@@ -27,6 +27,26 @@ impl FanoutTable {
     }
 }
 
+// The most lines of a circuit whose fan-out has room in a small table.
+const FEW_LINES: usize = 64;
+
+// Room for a fan-out of few lines, which is made in an eighth of the time.
+#[derive(Drop)]
+pub struct SmallFanoutTable {
+    readers: [LineSet; FEW_LINES],
+}
+
+impl SmallFanoutTable {
+    // A table of empty sets.
+    pub fn new() -> SmallFanoutTable
+        ensures { All IsEmpty result.readers }
+    {
+        SmallFanoutTable {
+            readers: [LineSet::empty(); FEW_LINES],
+        }
+    }
+}
+
 // A circuit, and for each of its lines the gates that read it: made once for all tries of a visit.
 #[derive(Drop)]
 pub struct Fanout<'a> {
@@ -50,7 +70,7 @@ fn note_gate(line: usize, operands: &[usize], readers: &mut [LineSet])
     ensures noted { Noted line operands.now readers.new }
 {
     for operand in operands {
-        readers[*operand] = readers[*operand].with(line);
+        readers[*operand].add(line);
     }
 }
 
@@ -67,13 +87,13 @@ fn note_gates(inputs: usize, gates: &[Gate], readers: &mut [LineSet])
 }
 
 impl<'a> Fanout<'a> {
-    // The gates that read each line of the circuit, noted in a table. (In a table that was lent before other gates may be noted too.)
-    pub fn new(circuit: &'a Circuit, table: &'a mut FanoutTable) -> Fanout<'a>
+    // The gates that read each line of the circuit, noted in sets, one for each line.
+    fn noted(circuit: &'a Circuit, readers: &'a mut [LineSet]) -> Fanout<'a>
+        requires { lawful circuit.now ≡ true → line_count circuit.now ≤ length readers.old }
         ensures { result.circuit.now ≡ circuit.now }
     {
         let inputs = circuit.input_count();
         let gates = circuit.gates();
-        let readers = &mut table.readers;
         note_gates(inputs, gates, readers);
         Fanout {
             circuit,
@@ -81,5 +101,22 @@ impl<'a> Fanout<'a> {
             gates,
             readers,
         }
+    }
+
+    // The gates that read each line of the circuit, noted in a table. (In a table that was lent before other gates may be noted too.)
+    pub fn new(circuit: &'a Circuit, table: &'a mut FanoutTable) -> Fanout<'a>
+        ensures { result.circuit.now ≡ circuit.now }
+    {
+        Fanout::noted(circuit, &mut table.readers)
+    }
+
+    // The same in a small table; nothing for a circuit of more than 64 lines.
+    pub fn small(circuit: &'a Circuit, table: &'a mut SmallFanoutTable) -> Option<Fanout<'a>>
+        ensures { MatchOption result (64 < line_count circuit.now) (λ fanout. fanout.circuit.now ≡ circuit.now) }
+    {
+        if circuit.line_count() > FEW_LINES {
+            return None;
+        }
+        Some(Fanout::noted(circuit, &mut table.readers))
     }
 }

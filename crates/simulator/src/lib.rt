@@ -12,7 +12,7 @@ pub mod simulation;
 pub mod socket;
 pub mod verdict;
 
-pub use fanout::{Fanout, FanoutTable};
+pub use fanout::{Fanout, FanoutTable, SmallFanoutTable};
 pub use reach::reach_end;
 pub use resimulation::{reshows, resimulate};
 pub use simulation::{

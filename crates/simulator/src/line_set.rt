@@ -44,9 +44,20 @@ impl LineSet {
         ensures line { has result line ≡ true }
         ensures only { OnlyMore self line result }
     {
-        let LineSet { mut words } = self;
-        words[line / 64] |= 1 << (line % 64);
-        LineSet { words }
+        let mut set = self;
+        set.add(line);
+        set
+    }
+
+    // Adds the line.
+    #[inline(always)]
+    pub fn add(&mut self, line: usize)
+        requires { line < 512 }
+        ensures more { Includes self.new self.old }
+        ensures line { has self.new line ≡ true }
+        ensures only { OnlyMore self.old line self.new }
+    {
+        self.words[line / 64] |= 1 << (line % 64);
     }
 
     // Adds those of another set.

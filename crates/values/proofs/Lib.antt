@@ -1,1 +1,2 @@
+pub mod HalvesOf
 pub mod Members

@@ -2,56 +2,52 @@
 use Rattle.std.specs.Prelude.{Bool, true, false, not, ◌&&◌, ◌||◌, cond}
 use Rattle.values.specs.Pairs.{Pairs}
 use Rattle.values.specs.Kind.{Kind}
-
--- what is known of one level: that it is 0, that it is 1, or nothing, written x
-pub data Half : Type 0 where
-  zero_half : Half
-  one_half : Half
-  unknown_half : Half
+use Rattle.values.specs.declared.half.Half.{Half}
+use Rattle.values.specs.declared.half.Half.TheVariants.{Zero, One, Unknown}
 
 -- the half of a known level
 abbrev pub level_half : Bool → Half
-level_half false = zero_half
-level_half true = one_half
+level_half false = Zero
+level_half true = One
 
 abbrev pub is_zero : Half → Bool
-is_zero zero_half = true
-is_zero one_half = false
-is_zero unknown_half = false
+is_zero Zero = true
+is_zero One = false
+is_zero Unknown = false
 
 abbrev pub is_one : Half → Bool
-is_one zero_half = false
-is_one one_half = true
-is_one unknown_half = false
+is_one Zero = false
+is_one One = true
+is_one Unknown = false
 
 abbrev pub is_unknown : Half → Bool
-is_unknown zero_half = false
-is_unknown one_half = false
-is_unknown unknown_half = true
+is_unknown Zero = false
+is_unknown One = false
+is_unknown Unknown = true
 
 -- 0 and 1 change places
 abbrev pub half_not : Half → Half
-half_not zero_half = one_half
-half_not one_half = zero_half
-half_not unknown_half = unknown_half
+half_not Zero = One
+half_not One = Zero
+half_not Unknown = Unknown
 
 -- 0 as soon as an operand is 0, and 1 where both are 1
 abbrev pub half_and : Half → Half → Half
-half_and a b = cond (is_zero a || is_zero b) zero_half (cond (is_one a && is_one b) one_half unknown_half)
+half_and a b = cond (is_zero a || is_zero b) Zero (cond (is_one a && is_one b) One Unknown)
 
 -- 1 as soon as an operand is 1, and 0 where both are 0
 abbrev pub half_or : Half → Half → Half
-half_or a b = cond (is_one a || is_one b) one_half (cond (is_zero a && is_zero b) zero_half unknown_half)
+half_or a b = cond (is_one a || is_one b) One (cond (is_zero a && is_zero b) Zero Unknown)
 
 -- known where both operands are, and then 1 where just one of them is 1
 abbrev pub half_xor : Half → Half → Half
-half_xor a b = cond (is_unknown a || is_unknown b) unknown_half (cond (is_one a) (half_not b) b)
+half_xor a b = cond (is_unknown a || is_unknown b) Unknown (cond (is_one a) (half_not b) b)
 
 -- does the level agree with the half?
 abbrev pub agrees : Half → Bool → Bool
-agrees zero_half b = not b
-agrees one_half b = b
-agrees unknown_half b = true
+agrees Zero b = not b
+agrees One b = b
+agrees Unknown b = true
 
 -- the pairs that agree with both halves
 abbrev pub of_halves : Half → Half → Pairs
@@ -64,10 +60,10 @@ of_halves g f = record {
 
 -- what is known of a level, by whether it can be 0 and whether it can be 1
 abbrev pub half_from : Bool → Bool → Half
-half_from true true = unknown_half
-half_from true false = zero_half
-half_from false true = one_half
-half_from false false = unknown_half
+half_from true true = Unknown
+half_from true false = Zero
+half_from false true = One
+half_from false false = Unknown
 
 -- what a set says of the good level
 abbrev pub good_half : Pairs → Half
@@ -90,5 +86,5 @@ by_halves join = record {
     };
     stick = λ v s. join (good_half s) (level_half v);
   };
-  unknown = join unknown_half unknown_half;
+  unknown = join Unknown Unknown;
 }

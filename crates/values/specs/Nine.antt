@@ -3,7 +3,8 @@ use Rattle.std.specs.Prelude.{List, [], ◌∷◌}
 use Rattle.values.specs.Pairs.{Pairs}
 use Rattle.values.specs.Kind.{Kind}
 use Rattle.values.specs.Made.{SmallestAnswers}
-use Rattle.values.specs.Halves.{zero_half, one_half, unknown_half, of_halves, by_halves}
+use Rattle.values.specs.Halves.{of_halves, by_halves}
+use Rattle.values.specs.declared.half.Half.TheVariants as half
 use Rattle.values.specs.declared.nine.Nine.{Nine}
 use Rattle.values.specs.declared.nine.Nine.TheVariants.{Zero, One, D, NotD, GoodZero, GoodOne, FaultyZero, FaultyOne, Unknown}
 
@@ -13,21 +14,21 @@ nine = by_halves of_halves
 -- the sets of the kind
 abbrev pub nine_sets : List Pairs
 nine_sets =
-    of_halves zero_half zero_half ∷ of_halves zero_half one_half ∷ of_halves one_half zero_half ∷ of_halves one_half one_half ∷
-    of_halves zero_half unknown_half ∷ of_halves one_half unknown_half ∷ of_halves unknown_half zero_half ∷ of_halves unknown_half one_half ∷
-    of_halves unknown_half unknown_half ∷ []
+    of_halves half.Zero half.Zero ∷ of_halves half.Zero half.One ∷ of_halves half.One half.Zero ∷ of_halves half.One half.One ∷
+    of_halves half.Zero half.Unknown ∷ of_halves half.One half.Unknown ∷ of_halves half.Unknown half.Zero ∷ of_halves half.Unknown half.One ∷
+    of_halves half.Unknown half.Unknown ∷ []
 
 -- the pairs that a value admits
 abbrev pub nine_meaning : Nine → Pairs
-nine_meaning Zero = of_halves zero_half zero_half
-nine_meaning One = of_halves one_half one_half
-nine_meaning D = of_halves one_half zero_half
-nine_meaning NotD = of_halves zero_half one_half
-nine_meaning GoodZero = of_halves zero_half unknown_half
-nine_meaning GoodOne = of_halves one_half unknown_half
-nine_meaning FaultyZero = of_halves unknown_half zero_half
-nine_meaning FaultyOne = of_halves unknown_half one_half
-nine_meaning Unknown = of_halves unknown_half unknown_half
+nine_meaning Zero = of_halves half.Zero half.Zero
+nine_meaning One = of_halves half.One half.One
+nine_meaning D = of_halves half.One half.Zero
+nine_meaning NotD = of_halves half.Zero half.One
+nine_meaning GoodZero = of_halves half.Zero half.Unknown
+nine_meaning GoodOne = of_halves half.One half.Unknown
+nine_meaning FaultyZero = of_halves half.Unknown half.Zero
+nine_meaning FaultyOne = of_halves half.Unknown half.One
+nine_meaning Unknown = of_halves half.Unknown half.Unknown
 
 -- the answers of nine are the smallest of its sets that hold what the operands can make
 abbrev pub NineSmallest : Type 0

@@ -2,6 +2,7 @@
 #![tactic(auto)]
 
 pub mod five;
+pub mod half;
 pub mod kind;
 pub mod nine;
 pub mod seven;

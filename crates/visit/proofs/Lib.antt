@@ -3,6 +3,7 @@ pub mod Counting
 pub mod Cubes
 pub mod Steps
 pub mod Restoring
+pub mod Traced
 pub mod Finding
 pub mod Holding
 pub mod Inputs

@@ -21,12 +21,13 @@ module _ (K : Kind) (M : Pairs → Type 0) (l : Lawful K M) (c : Circuit) (f : F
   inputs = length c.inputs
 
   -- the cube with nothing driven is met with the fault plugged
-  pub visit_is : (simulated : Circuit) (plugged : Option Fault) (q : Cube) (next : ℕ) (start end : Progress) (r : Answer)
-      → simulated ≡ c → plugged ≡ Some f → q ≡ nothing_driven → next ≡ 0 → start ≡ at_start
-      → end ≡ met (verdict K simulated plugged) budget (below (verdict K simulated plugged) budget (length simulated.inputs) (length simulated.inputs - next)) q start
+  pub visit_is : (simulated : Circuit) (plugged : Option Fault) (most : ℕ) (q : Cube) (next : ℕ) (start end : Progress) (r : Answer)
+      → simulated ≡ c → plugged ≡ Some f → most ≡ budget → q ≡ nothing_driven → next ≡ 0 → start ≡ at_start
+      → end ≡ met (verdict K simulated plugged) most (below (verdict K simulated plugged) most (length simulated.inputs) (length simulated.inputs - next)) q start
       → r ≡ progress_answer end → r ≡ answer K c f budget
-  visit_is simulated plugged q next start end r circuit plug nothing first begin e is =
+  visit_is simulated plugged most q next start end r circuit plug allowed nothing first begin e is =
       is ∙ ap progress_answer e
+      ∙ ap (λ (m : ℕ). progress_answer (met (verdict K simulated plugged) m (below (verdict K simulated plugged) m (length simulated.inputs) (length simulated.inputs - next)) q start)) allowed
       ∙ ap (λ (d : Circuit). progress_answer (met (verdict K d plugged) budget (below (verdict K d plugged) budget (length d.inputs) (length d.inputs - next)) q start)) circuit
       ∙ ap (λ (n : ℕ). progress_answer (met (verdict K c plugged) budget (below (verdict K c plugged) budget inputs n) q start)) (ap (λ (n : ℕ). inputs - n) first ∙ sub-zero inputs)
       ∙ ap (λ (o : Option Fault). progress_answer (met (verdict K c o) budget (below (verdict K c o) budget inputs inputs) q start)) plug

@@ -1,5 +1,6 @@
 pub mod Visiting
 pub mod Meaning
 pub mod Visits
+pub mod Traces
 pub mod Settings
 pub mod KnownAnswers

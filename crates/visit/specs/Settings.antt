@@ -12,11 +12,11 @@ use Rattle.visit.specs.Visiting.{Progress, met, below}
 
 -- the verdict on a cube, of the setting's circuit with the fault that is plugged
 abbrev pub verdict_in : Kind → Setting → Cube → Verdict
-verdict_in K s q = verdict K s.fanout.now.circuit.now s.socket.now.fault q
+verdict_in K s q = verdict K s.circuit.now s.socket.now.fault q
 
 -- how many inputs there are to drive
 abbrev pub input_count : Setting → ℕ
-input_count s = length s.fanout.now.circuit.now.inputs
+input_count s = length s.circuit.now.inputs
 
 -- all cubes below a cube that drive inputs from the next one on, visited
 abbrev pub below_from : Kind → Setting → ℕ → Cube → Progress → Progress
@@ -32,4 +32,4 @@ branch_met K s b p = met (verdict_in K s) s.budget (below_from K s b.next) b.cub
 
 -- the row begins with the values of the lines under the cube
 abbrev pub HoldsUnder : {V : Type 0} → Kind → (V → Pairs) → Setting → Cube → List V → Type 0
-HoldsUnder K meaning s q row = Holds K meaning s.fanout.now.circuit.now s.socket.now.fault q row
+HoldsUnder K meaning s q row = Holds K meaning s.circuit.now s.socket.now.fault q row

@@ -6,6 +6,7 @@ mod branch;
 mod known;
 mod progress;
 mod setting;
+mod trace;
 pub mod visiting;
 
 pub use answer::Answer;

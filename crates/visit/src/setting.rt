@@ -1,15 +1,23 @@
 // The setting of a visit.
-ghost use Rattle.simulator.specs.Reach.{UnseenFrom};
+ghost use Rattle.std.specs.Prelude.{◌≡◌, ◌≤◌};
+ghost use Rattle.circuit.specs.Model.{line_count};
+ghost use Rattle.visit.specs.Traces.{Traces};
 
-use simulator::{Fanout, Socket};
+use crate::trace::Trace;
+use circuit::Circuit;
+use simulator::Socket;
 
-// What a visit leaves as it is: the circuit with its fan-out, the socket with the fault, the line from which on no output can be seen,
-// and how many tries the visit may make. (The row, which each try writes, is no part: the contracts say of it alone what it holds.)
+// What a visit leaves as it is: the circuit, the socket with the fault, how many tries the visit may make, and the trace. Without one,
+// each try works out every line. (The row, which each try writes, is no part: the contracts say of it alone what it holds.)
 #[derive(Clone, Copy)]
 pub(crate) struct Setting<'a> {
-    pub(crate) fanout: &'a Fanout<'a>,
+    pub(crate) circuit: &'a Circuit,
+    // the circuit's, asked for once
+    pub(crate) lines: usize,
     pub(crate) socket: &'a Socket,
-    pub(crate) end: usize,
     pub(crate) budget: usize,
-    ghost unseen: { UnseenFrom fanout.now.circuit.now socket.now.fault end },
+    pub(crate) trace: Option<Trace<'a>>,
+    ghost lines_are: { lines ≡ line_count circuit.now },
+    ghost few: { lines ≤ 512 },
+    ghost traces: { Traces circuit.now socket.now.fault trace },
 }

@@ -2,7 +2,7 @@
 ghost use Rattle.std.specs.Prelude.{◌≤◌, length};
 
 // A text, and how far it has been read.
-#[derive(Debug, Drop)]
+#[derive(Clone, Copy, Debug)]
 pub struct Lexer<'a> {
     pub(crate) text: &'a [u8],
     pub(crate) place: usize,

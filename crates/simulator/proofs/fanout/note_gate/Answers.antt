@@ -9,11 +9,11 @@ loop-operand-preserved c =
     let index = c.loop-operand.operand-index in
     let operand = get_or operands index 0 in
     let inside : operand < length readers = omega (arith, c.requires.operands index 0 c.loop-operand-test.true, c.loop-operand.auto.readers) in
-    let grown = grown_keeps readers operand c.args.line c.with.result inside c.with.ensures.more in
+    let grown = grown_keeps readers operand c.args.line c.add.new.self inside c.add.ensures.more in
     record {
-      keeps = keeps_trans c.args.readers.now readers (set readers operand c.with.result) c.loop-operand.invariant.keeps grown;
+      keeps = keeps_trans c.args.readers.now readers (set readers operand c.add.new.self) c.loop-operand.invariant.keeps grown;
       noted =
-          noted_more c.args.line operands index (set readers operand c.with.result) c.loop-operand-test.true
-          (noted_keeps c.args.line (take index operands) readers (set readers operand c.with.result) grown c.loop-operand.invariant.noted)
-          (grown_noted readers operand c.args.line c.with.result inside c.with.ensures.more c.with.ensures.line);
+          noted_more c.args.line operands index (set readers operand c.add.new.self) c.loop-operand-test.true
+          (noted_keeps c.args.line (take index operands) readers (set readers operand c.add.new.self) grown c.loop-operand.invariant.noted)
+          (grown_noted readers operand c.args.line c.add.new.self inside c.add.ensures.more c.add.ensures.line);
     }

@@ -8,10 +8,11 @@ use Rattle.visit.specs.Visits.{going_on}
 use Rattle.visit.specs.Settings.{input_count}
 use Rattle.visit.proofs.Steps.{given_up, turned, given_up_first, given_up_second, below_passed_over}
 use Rattle.visit.proofs.Restoring.{restored}
+use Rattle.visit.proofs.Traced.{where_traced}
 use Rattle.visit.proofs.setting.Setting.+go_below_meet.Goals as goal
 
-pub go_below-returns-then-not-is_beaten_by : goal.go_below-returns-then-not-is_beaten_by
-go_below-returns-then-not-is_beaten_by g t c =
+pub go_below_in_row-returns-then-not-is_beaten_by : goal.go_below_in_row-returns-then-not-is_beaten_by
+go_below_in_row-returns-then-not-is_beaten_by g t c =
     let branch = c.args.branch in
     let input = c.loop-input.input in
     let lower : branch.cube.driven < 2 ^ input = omega (arith, branch.lower, pow_mono {i = branch.next} {j = input} c.loop-input.auto.input) in
@@ -21,19 +22,19 @@ go_below-returns-then-not-is_beaten_by g t c =
     )
     ∙ c.loop-input.invariant.left
 
-pub go_below-meet-requires : goal.go_below-meet-requires
-go_below-meet-requires g t c = λ lifetimes outlives. (search rules, (search rules, (search rules, (search rules, c.loop-input.invariant.held))))
+pub go_below_in_row-meet-requires : goal.go_below_in_row-meet-requires
+go_below_in_row-meet-requires g t c = λ lifetimes outlives. (search rules, (search rules, (search rules, (search rules, where_traced c.args.self.now.trace c.loop-input.invariant.held))))
 
-pub go_below-returns-in_err-meet : goal.go_below-returns-in_err-meet
-go_below-returns-in_err-meet g t c =
+pub go_below_in_row-returns-in_err-meet : goal.go_below_in_row-returns-in_err-meet
+go_below_in_row-returns-in_err-meet g t c =
     let p = err_from_is_err_and c.from_residual.result c.from_residual.ensures.1 in
     rw p.1
     (given_up_first g.V.ValueKind.kind c.args.self.now c.args.branch.cube c.loop-input.input (omega (arith, c.input_count-input-end.ensures.value))
     (going_on c.loop-input.progress) (given_up c.meet.new.progress) (c.driving-low.result, c.driving-low.ensures.cube, c.driving-low.ensures.next, c.in_err-meet.ensures) refl
     ∙ c.loop-input.invariant.left)
 
-pub go_below-returns-in_err-meet-2 : goal.go_below-returns-in_err-meet-2
-go_below-returns-in_err-meet-2 g t c =
+pub go_below_in_row-returns-in_err-meet-2 : goal.go_below_in_row-returns-in_err-meet-2
+go_below_in_row-returns-in_err-meet-2 g t c =
     let low = c.driving-low in
     let high = c.driving in
     let p = err_from_is_err_and c.from_residual-in_err-meet-2.result c.from_residual-in_err-meet-2.ensures.1 in
@@ -43,8 +44,8 @@ go_below-returns-in_err-meet-2 g t c =
     (given_up c.meet-in-loop-input.new.progress) (high.result, high.ensures.cube, high.ensures.next, c.in_err-meet-2.ensures) refl
     ∙ c.loop-input.invariant.left)
 
-pub go_below-loop-input-preserved : goal.go_below-loop-input-preserved
-go_below-loop-input-preserved g t c =
+pub go_below_in_row-loop-input-preserved : goal.go_below_in_row-loop-input-preserved
+go_below_in_row-loop-input-preserved g t c =
     let low = c.driving-low in
     let high = c.driving in
     record {
@@ -54,12 +55,51 @@ go_below-loop-input-preserved g t c =
           (going_on c.meet-in-loop-input.new.progress) (high.result, high.ensures.cube, high.ensures.next, c.in_ok-meet-2.ensures)
           ∙ c.loop-input.invariant.left;
       held =
-          restored g.V.ValueKind.meaning _ _ c.line_count-lines.result c.args.row.now c.copy_lines.new.to c.copy_lines-in-loop-input-2.new.to
-          c.line_count-lines.ensures c.copy_lines-in-loop-input-2.ensures c.copy_lines.ensures c.requires.held;
+          restored g.V.ValueKind.meaning _ _ c.args.self.now.lines c.args.row.now c.copy_lines.new.to c.copy_lines-in-loop-input-2.new.to
+          c.args.self.now.lines_are c.copy_lines-in-loop-input-2.ensures c.copy_lines.ensures c.requires.held;
     }
 
+pub go_below_anew-returns-then-not-is_beaten_by : goal.go_below_anew-returns-then-not-is_beaten_by
+go_below_anew-returns-then-not-is_beaten_by g t c =
+    let branch = c.args.branch in
+    let input = c.loop-input.input in
+    let lower : branch.cube.driven < 2 ^ input = omega (arith, branch.lower, pow_mono {i = branch.next} {j = input} c.loop-input.auto.input) in
+    sym (
+    below_passed_over g.V.ValueKind.kind c.args.self.now branch.cube input (omega (arith, c.loop-input-test.true, c.input_count-inputs.ensures.value))
+    (going_on c.loop-input.progress) c.driving-low.result.cube lower c.driving-low.ensures.cube (sym c.is_beaten_by.ensures ∙ c.if-not-is_beaten_by.true)
+    )
+    ∙ c.loop-input.invariant
+
+pub go_below_anew-returns-in_err-meet : goal.go_below_anew-returns-in_err-meet
+go_below_anew-returns-in_err-meet g t c =
+    let p = err_from_is_err_and c.from_residual.result c.from_residual.ensures.1 in
+    rw p.1
+    (given_up_first g.V.ValueKind.kind c.args.self.now c.args.branch.cube c.loop-input.input (omega (arith, c.input_count-inputs.ensures.value))
+    (going_on c.loop-input.progress) (given_up c.meet.new.progress) (c.driving-low.result, c.driving-low.ensures.cube, c.driving-low.ensures.next, c.in_err-meet.ensures) refl
+    ∙ c.loop-input.invariant)
+
+pub go_below_anew-returns-in_err-meet-2 : goal.go_below_anew-returns-in_err-meet-2
+go_below_anew-returns-in_err-meet-2 g t c =
+    let low = c.driving-low in
+    let high = c.driving-high in
+    let p = err_from_is_err_and c.from_residual-in_err-meet-2.result c.from_residual-in_err-meet-2.ensures.1 in
+    rw p.1
+    (given_up_second g.V.ValueKind.kind c.args.self.now c.args.branch.cube c.loop-input.input (omega (arith, c.input_count-inputs.ensures.value))
+    (going_on c.loop-input.progress) (going_on c.meet.new.progress) (low.result, low.ensures.cube, low.ensures.next, c.in_ok-meet.ensures)
+    (given_up c.meet-in-loop-input.new.progress) (high.result, high.ensures.cube, high.ensures.next, c.in_err-meet-2.ensures) refl
+    ∙ c.loop-input.invariant)
+
+pub go_below_anew-loop-input-preserved : goal.go_below_anew-loop-input-preserved
+go_below_anew-loop-input-preserved g t c =
+    let low = c.driving-low in
+    let high = c.driving-high in
+    turned g.V.ValueKind.kind c.args.self.now c.args.branch.cube c.loop-input.input (omega (arith, c.input_count-inputs.ensures.value))
+    (going_on c.loop-input.progress) (going_on c.meet.new.progress) (low.result, low.ensures.cube, low.ensures.next, c.in_ok-meet.ensures)
+    (going_on c.meet-in-loop-input.new.progress) (high.result, high.ensures.cube, high.ensures.next, c.in_ok-meet-2.ensures)
+    ∙ c.loop-input.invariant
+
 -- a branch drives inputs of the circuit alone
-inside_cube : (s : Setting) (b : Branch) → b.next ≤ input_count s → drives_beyond s.fanout.now.circuit.now b.cube ≡ false
+inside_cube : (s : Setting) (b : Branch) → b.next ≤ input_count s → drives_beyond s.circuit.now b.cube ≡ false
 inside_cube s b h = lt-leb (2 ^ input_count s) b.cube.driven (omega (arith, pow_mono {i = b.next} {j = input_count s} h, b.lower))
 
 pub meet-verdict_on-requires-clause-inside : goal.meet-verdict_on-requires-clause-inside

@@ -1,7 +1,7 @@
 use Rattle.std.proofs.Common.{rules}
 use Rattle.session.proofs.Describing.{none_described}
-use Rattle.session.proofs.opening.open.Goals as goal
+use Rattle.session.proofs.opening.open_in.Goals as goal
 
-pub returns-in_ok-cause-in-Err-clause-described : goal.returns-in_ok-cause-in-Err-clause-described
-returns-in_ok-cause-in-Err-clause-described c =
+pub returns-clause-described : goal.returns-clause-described
+returns-clause-described c =
     none_described c.args.text.now c.in-Err.refusal c.in_ok-cause-in-Err.cause (search rules) c.in-Err.ensures.follows
