@@ -21,7 +21,7 @@ impl Circuit {
         }
     }
 
-    // The blank circuit: one input, named a, which is its output.
+    // The blank circuit: its only line is the input `a`, and that line is the output.
     pub fn blank(heap: Global) -> Result<Circuit, AllocError>
         ensures { IfOk result (λ c. c ≡ blank) }
     {

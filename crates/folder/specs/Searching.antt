@@ -18,7 +18,7 @@ filed (answer.Fewest cube tries) = Fewest cube tries
 filed (answer.Redundant tries) = Redundant tries
 filed (answer.Spent best tries) = Spent best tries
 
--- a budget is 1 to 1,000,000 tries
+-- a budget is one try at least and a million at most
 abbrev pub budget_in_range : ℕ → Bool
 budget_in_range budget = nat_le 1 budget && nat_le budget 1000000
 

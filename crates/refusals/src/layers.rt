@@ -41,7 +41,7 @@ impl TextRefusal {
 // The order in which words may stand.
 #[derive(Clone, Copy, Debug, PartialEq, Eq)]
 pub enum FormRefusal {
-    // a bracket, a word or a line end where something else is due
+    // a bracket, a word or a line feed in a place that asks for another
     Misplaced { place: usize },
     // a head, an operator or a kind that does not exist
     UnknownWord { place: usize },
@@ -76,7 +76,7 @@ pub enum CircuitRefusal {
     NameTaken { place: usize },
     // more names, lines or bytes than allowed
     LimitPassed { place: usize },
-    // the text's end where a line should begin, and no outputs line yet
+    // no line is left, and none of those before was an outputs line
     EndsEarly { place: usize },
 }
 

@@ -34,7 +34,7 @@ negated_by G Xnor x = G.negate x
 negated_by G Not x = G.negate x
 negated_by G Buf x = x
 
--- the operands two at a time, from the left; each gate has one at least
+-- the operands from left to right: each is joined to what came of those before it; a gate has at least one
 abbrev pub joined : {V : Type 0} → Gates V → Op → List V → V
 joined G op [] = G.known false
 joined G op (x ∷ xs) = fold (join G op) x xs

@@ -27,22 +27,19 @@ impl FanoutTable {
     }
 }
 
-// The most lines of a circuit whose fan-out has room in a small table.
-const FEW_LINES: usize = 64;
-
-// Room for a fan-out of few lines, which is made in an eighth of the time.
+// Room for a fan-out of so many lines at most, 64 say. It is made the faster, the fewer these are.
 #[derive(Drop)]
-pub struct SmallFanoutTable {
-    readers: [LineSet; FEW_LINES],
+pub struct SmallFanoutTable<const LINES: usize> {
+    readers: [LineSet; LINES],
 }
 
-impl SmallFanoutTable {
+impl<const LINES: usize> SmallFanoutTable<LINES> {
     // A table of empty sets.
-    pub fn new() -> SmallFanoutTable
+    pub fn new() -> SmallFanoutTable<LINES>
         ensures { All IsEmpty result.readers }
     {
         SmallFanoutTable {
-            readers: [LineSet::empty(); FEW_LINES],
+            readers: [LineSet::empty(); LINES],
         }
     }
 }
@@ -110,11 +107,14 @@ impl<'a> Fanout<'a> {
         Fanout::noted(circuit, &mut table.readers)
     }
 
-    // The same in a small table; nothing for a circuit of more than 64 lines.
-    pub fn small(circuit: &'a Circuit, table: &'a mut SmallFanoutTable) -> Option<Fanout<'a>>
-        ensures { MatchOption result (64 < line_count circuit.now) (λ fanout. fanout.circuit.now ≡ circuit.now) }
+    // The same in a small table; nothing for a circuit of more lines than it has room for.
+    pub fn small<const LINES: usize>(
+        circuit: &'a Circuit,
+        table: &'a mut SmallFanoutTable<LINES>,
+    ) -> Option<Fanout<'a>>
+        ensures { MatchOption result (LINES < line_count circuit.now) (λ fanout. fanout.circuit.now ≡ circuit.now) }
     {
-        if circuit.line_count() > FEW_LINES {
+        if circuit.line_count() > LINES {
             return None;
         }
         Some(Fanout::noted(circuit, &mut table.readers))

@@ -22,7 +22,7 @@ pub fn at_pin<V: ValueKind>(fault: Option<Fault>, line: usize, pin: usize, value
     }
 }
 
-// What the operands of the gate of a line come to by a closure, two at a time from the left. By whatever operator the closure joins,
+// What the operands of the gate of a line come to by a closure, which joins each to what came of those to its left. By whatever operator it joins,
 // the result is what that operator makes of them.
 #[inline(always)]
 fn fold_operands<V: ValueKind, J: Fn(V, V) -> V>(

@@ -29,7 +29,7 @@ fn reached_lines(circuit: &Circuit, fault: Fault) -> LineSet
     let inputs = circuit.input_count();
     for (index, gate) in circuit.gates().iter().enumerate() {
         if some_reached(gate.operands.as_slice(), &reached) {
-            reached = reached.with(inputs + index);
+            reached.add(inputs + index);
         }
     }
     reached

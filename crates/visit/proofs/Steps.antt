@@ -1,6 +1,8 @@
 -- One turn of the visit below a cube.
-use Rattle.std.proofs.Common.{◌≡◌, ℕ, zero, suc, ◌+◌, ◌-◌, ◌^◌, ◌<◌, ◌≤◌, Bool, true, false, cond, not, ◌&&◌, ltb, Some, None, Option, sym, refl, ap, ◌∙◌, add_comm, one-mul, arith, pow_mono}
+use Rattle.std.proofs.Common.{◌≡◌, ℕ, zero, suc, ◌+◌, ◌-◌, ◌^◌, ◌<◌, ◌≤◌, Bool, true, false, cond, not, ◌&&◌, ltb, Some, None, Ok, Option, if◌then◌else◌, List, subst, sym, refl, ap, ◌∙◌, add_comm, one-mul, arith, pow_mono}
+use mathlib.Core.Bool.{false≢true}
 use lib.Count.{ones, ones_cat}
+use Rattle.values.specs.Pairs.{Pairs}
 use Rattle.values.specs.Kind.{Kind}
 use Rattle.faults.specs.Cubes.{Cube}
 use Rattle.simulator.specs.declared.verdict.Verdict.{Verdict}
@@ -8,7 +10,7 @@ use Rattle.visit.specs.declared.branch.Branch.{Branch}
 use Rattle.visit.specs.declared.progress.Progress as code
 use Rattle.visit.specs.declared.setting.Setting.{Setting}
 use Rattle.visit.specs.Visits.{going_on}
-use Rattle.visit.specs.Settings.{verdict_in, input_count, below_from, branch_met}
+use Rattle.visit.specs.Settings.{verdict_in, input_count, below_from, below_branch, branch_met, below_attempted, rest_below, HoldsUnder}
 use Rattle.visit.specs.Visiting.{Progress, fewer, drive, due, met, below}
 
 -- how far a visit of the code had come that was given up
@@ -117,8 +119,98 @@ module _ (K : Kind) (s : Setting) (q : Cube) (i : ℕ) (h : i < input_count s) w
       ∙ ap (λ (x : Cube). fewer x p.best) (sym is)
       ∙ beaten)
 
+  -- what is left below the cube, from where the cube with input i at that level was tried
+  abbrev rest : Bool → Progress → Progress
+  rest false p = deeper q (met judge s.budget deeper (drive q i 1) (deeper (drive q i 0) p))
+  rest true p = deeper q (deeper (drive q i 1) p)
+
+  rest_is : (level : Bool) (t : Branch) (p : Progress) → t.cube ≡ q → t.next ≡ i → rest_below K s t (Some level) p ≡ rest level p
+  rest_is false t p is here =
+      ap (λ (x : Cube). below_from K s (t.next + 1) x (met judge s.budget (below_from K s (t.next + 1)) (drive x t.next 1) (below_from K s (t.next + 1) (drive x t.next 0) p))) is
+      ∙ ap (λ (j : ℕ). below_from K s (j + 1) q (met judge s.budget (below_from K s (j + 1)) (drive q j 1) (below_from K s (j + 1) (drive q j 0) p))) here
+  rest_is true t p is here =
+      ap (λ (x : Cube). below_from K s (t.next + 1) x (below_from K s (t.next + 1) (drive x t.next 1) p)) is
+      ∙ ap (λ (j : ℕ). below_from K s (j + 1) q (below_from K s (j + 1) (drive q j 1) p)) here
+
+  -- the progress p0 after the visit below the branch in which input i is driven to that level
+  abbrev pub Below : ℕ → Progress → Progress → Type 0
+  Below level p p0 = (b : Branch) × (b.cube ≡ drive q i level) × (b.next ≡ i + 1) × (p0 ≡ below_branch K s b p)
+
+  below_is : (level : ℕ) (p p0 : Progress) → Below level p p0 → p0 ≡ deeper (drive q i level) p
+  below_is level p p0 (b, is, above, e) = e ∙ ap (λ (n : ℕ). below_from K s n b.cube p) above ∙ ap (λ (x : Cube). deeper x p) is
+
+  -- A branch in which input i is driven to that level, at which an attempt was made that leads from p to p0: what is below it gives what meeting it gives.
+  abbrev pub LeadsOn : ℕ → Progress → Progress → Type 0
+  LeadsOn level p p0 = (b : Branch) × (b.cube ≡ drive q i level) × (b.next ≡ i + 1) × (below_branch K s b p0 ≡ branch_met K s b p)
+
+  leads_on_is : (level : ℕ) (p p0 : Progress) → LeadsOn level p p0 → deeper (drive q i level) p0 ≡ met judge s.budget deeper (drive q i level) p
+  leads_on_is level p p0 (b, is, above, e) =
+      sym (below_is level p0 (below_branch K s b p0) (b, is, above, refl)) ∙ meets_is level p (below_branch K s b p0) (b, is, above, e)
+
+  module _ (t : Branch) (is : t.cube ≡ q) (here : t.next ≡ i) where
+    -- once the cube with 0 leads on
+    pub low_leads_on : (p p0 : Progress) → LeadsOn 0 p p0 → rest_below K s t (Some false) p0 ≡ below_from K s i q p
+    low_leads_on p p0 leads =
+        rest_is false t p0 is here
+        ∙ ap (λ (x : Progress). deeper q (met judge s.budget deeper (drive q i 1) x)) (leads_on_is 0 p p0 leads)
+        ∙ sym (below_turn p)
+
+    -- once the cube with 1 leads on
+    pub high_leads_on : (p p0 p1 : Progress) → Meets 0 p p0 → LeadsOn 1 p0 p1 → rest_below K s t (Some true) p1 ≡ below_from K s i q p
+    high_leads_on p p0 p1 zero_met leads =
+        rest_is true t p1 is here
+        ∙ ap (deeper q) (leads_on_is 1 p0 p1 leads)
+        ∙ ap (λ (x : Progress). deeper q (met judge s.budget deeper (drive q i 1) x)) (meets_is 0 p p0 zero_met)
+        ∙ sym (below_turn p)
+
+    -- given up below the cube that was tried
+    pub rest_given_up : (level : Bool) (p p0 : Progress) → Below (if level then 1 else 0) p p0 → p0.spent ≡ true → p0 ≡ rest_below K s t (Some level) p
+    rest_given_up false p p0 below_low spent =
+        sym (
+        rest_is false t p is here
+        ∙ ap (λ (x : Progress). deeper q (met judge s.budget deeper (drive q i 1) x)) (sym (below_is 0 p p0 below_low))
+        ∙ ap (deeper q) (met_given_up judge s.budget inputs deeper (drive q i 1) p0 spent)
+        ∙ below_given_up judge s.budget inputs (inputs - (i + 1)) q p0 spent
+        )
+    rest_given_up true p p0 below_high spent =
+        sym (
+        rest_is true t p is here
+        ∙ ap (deeper q) (sym (below_is 1 p p0 below_high))
+        ∙ below_given_up judge s.budget inputs (inputs - (i + 1)) q p0 spent
+        )
+
+    -- the cube with 1 met after what is below the one with 0, and then the inputs above
+    pub rest_after_low : (level : Bool) → level ≡ false → (p p0 p1 : Progress) → Below (if level then 1 else 0) p p0 → Meets 1 p0 p1 → deeper q p1 ≡ rest_below K s t (Some level) p
+    rest_after_low true low p p0 p1 below_low one_met = absurd (false≢true (sym low))
+    rest_after_low false low p p0 p1 below_low one_met =
+        sym (
+        rest_is false t p is here
+        ∙ ap (λ (x : Progress). deeper q (met judge s.budget deeper (drive q i 1) x)) (sym (below_is 0 p p0 below_low))
+        ∙ ap (deeper q) (sym (meets_is 1 p0 p1 one_met))
+        )
+
+    pub rest_given_up_high : (level : Bool) → level ≡ false → (p p0 p1 : Progress) → Below (if level then 1 else 0) p p0 → Meets 1 p0 p1 → p1.spent ≡ true → p1 ≡ rest_below K s t (Some level) p
+    rest_given_up_high level low p p0 p1 below_low one_met spent =
+        sym (below_given_up judge s.budget inputs (inputs - (i + 1)) q p1 spent) ∙ rest_after_low level low p p0 p1 below_low one_met
+
 -- where no input is left, nothing is below
 pub below_nothing : (K : Kind) (s : Setting) (i : ℕ) (q : Cube) (p : Progress) → input_count s ≤ i → below_from K s i q p ≡ p
 below_nothing K s i q p h =
     let none : input_count s - i ≡ 0 = omega (arith, h) in
     ap (λ (n : ℕ). below (verdict_in K s) s.budget (input_count s) n q p) none
+
+-- An attempt that says whether to go on below the cube: where it says so, what is below gives what meeting the cube gives, and where not, that is all.
+module _ (K : Kind) (s : Setting) (b : Branch) (p : Progress) (p0 : code.Progress) where
+  pub attempted_on : (on : Bool) → on ≡ true → below_attempted K s b p0 (Ok on) ≡ branch_met K s b p → below_branch K s b (going_on p0) ≡ branch_met K s b p
+  attempted_on true is e = e
+  attempted_on false is e = absurd (false≢true is)
+
+  pub attempted_done : (on : Bool) → on ≡ false → below_attempted K s b p0 (Ok on) ≡ branch_met K s b p → going_on p0 ≡ branch_met K s b p
+  attempted_done false is e = e
+  attempted_done true is e = absurd (false≢true (sym is))
+
+-- a row that holds the lines under the cube of a branch in which an input is driven
+pub held_driving : {V : Type 0} (K : Kind) (meaning : V → Pairs) (s : Setting) (q : Cube) (i level : ℕ) (t b : Branch) (row : List V)
+    → t.cube ≡ q → t.next ≡ i → b.cube ≡ drive q i level → HoldsUnder K meaning s b.cube row → HoldsUnder K meaning s (drive t.cube t.next level) row
+held_driving K meaning s q i level t b row same here is =
+    subst (λ (x : Cube). HoldsUnder K meaning s x row) (is ∙ sym (ap (λ (x : Cube). drive x t.next level) same ∙ ap (λ (j : ℕ). drive q j level) here))

@@ -25,7 +25,7 @@ fewer q (Some best) = nat_lt (count_ones q.driven) (count_ones best.driven)
 abbrev pub drive : Cube → ℕ → ℕ → Cube
 drive q i level = record { driven = q.driven + 2 ^ i; level = q.level + level * 2 ^ i }
 
--- one try: a cube that shows becomes the best; below an unsure cube the visit goes on
+-- one try: the best is the cube from then on, if it shows; below an unsure cube the visit goes on
 abbrev pub tried : Verdict → (Progress → Progress) → Cube → Progress → Progress
 tried Shows deeper q p = record { best = Some q; tries = p.tries + 1; spent = false }
 tried Still deeper q p = record { best = p.best; tries = p.tries + 1; spent = false }

@@ -3,7 +3,7 @@
 pub enum Token<'a> {
     Opening { place: usize },
     Closing { place: usize },
-    // a run of letters and digits
+    // letters and digits, one after another
     Word { bytes: &'a [u8], place: usize },
     // a line feed
     LineEnd { place: usize },

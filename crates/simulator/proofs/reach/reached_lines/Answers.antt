@@ -46,8 +46,8 @@ some_reached-requires c = λ k d inside.
     let low = operands_below line gate (gates_fit circuit rules index below) k d (omega (arith, inside, ap length operands)) in
     omega (arith, low, small, ap (λ (os : List ℕ). get_or os k d) operands)
 
-pub with-reached-requires-then-some_reached : goal.with-reached-requires-then-some_reached
-with-reached-requires-then-some_reached c =
+pub add-requires : goal.add-requires
+add-requires c =
     let circuit = c.args.circuit.now in
     let rules = c.gates-gate-items.ensures.rules in
     let items = c.gates-gate-items.result.now in
@@ -78,8 +78,8 @@ loop-index-preserved c =
     let answer : c.some_reached.result ≡ list_any (has was) (operands_at circuit.gates index) = c.some_reached.ensures ∙ ap (list_any (has was)) operands in
     elim c.if-some_reached.branch [
       | then-some_reached w ↦
-          let added = w.with-reached-then-some_reached.ensures in
-          let more = w.with-reached-then-some_reached.result in
+          let added = w.add.ensures in
+          let more = w.add.new.self in
           rw w.reached-is
           (gate_added circuit rules f was more index below (sym answer ∙ w.if-some_reached.true) added.more
           (ap (has more) (sym here) ∙ added.line) (subst (λ (n : ℕ). OnlyMore was n more) here added.only) c.loop-index.invariant)

@@ -1,17 +1,8 @@
-use Rattle.std.proofs.Common.{length, Option, ap, sym, ◌∙◌, subst}
+use Rattle.std.proofs.Common.{length, ap, ◌∙◌}
 use Rattle.simulator.specs.declared.socket.Socket.{Socket}
-use Rattle.visit.specs.declared.trace.Trace.{Trace}
-use Rattle.visit.specs.Traces.{WhereTraced}
-use Rattle.visit.specs.Settings.{HoldsUnder}
 use Rattle.visit.specs.Visits.{going_on, left}
 use Rattle.visit.proofs.Visited.{visit_is, visits}
 use Rattle.visit.proofs.visiting.visit.Goals as goal
-
--- nothing is owed of the row: there is no trace
-pub meet-end-requires-clause-held : goal.meet-end-requires-clause-held
-meet-end-requires-clause-held g c =
-    let v = g.V.ValueKind in
-    subst (λ (t : Option Trace). WhereTraced t (HoldsUnder v.kind v.meaning c.untraced-setting.result c.whole-whole.result.cube c.args.row.now)) (sym c.untraced-setting.ensures.trace) tt
 
 pub returns-clause-visits : goal.returns-clause-visits
 returns-clause-visits g c =
